@@ -1,0 +1,1 @@
+// Powers with fractional exponents: what it takes to enclose them between fractions (proofs/). No function.

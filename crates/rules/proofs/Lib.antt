@@ -1,0 +1,3 @@
+pub mod Values
+pub mod Nearest
+pub mod Settings

@@ -1,0 +1,34 @@
+-- 01, "Curve 4", "Curve 3", "Decoding": a fraction compared with the exact value at a code. The code may be a fraction too.
+-- Assumes nothing.
+use mathlib.Core.Bool.{Bool, true, false}
+use Prim.Native.Nat.{ℕ}
+use Rattle.rules.specs.declared.Setting.{Setting}
+use Rattle.rules.specs.Fraction.{Fraction, whole, _+ℚ_, _-ℚ_, _*ℚ_, _/ℚ_, Versus, VersusPower}
+use Rattle.rules.specs.Curve.{Curve, base, exponent, less, factor, inToe, toeValue}
+use Rattle.rules.specs.Setting.{curveOf, topOf}
+
+-- a curve, and which signal a code stands for: (code - start) / span
+pub record Scale : Type 0 where
+  pub curve : Curve
+  pub start : ℕ
+  pub span : ℕ
+
+abbrev pub signal : Scale → Fraction → Fraction
+signal k n = (n -ℚ whole (k .start)) /ℚ whole (k .span)
+
+-- "a code n stands for the signal n / top"
+abbrev pub scaleOf : Setting → Scale
+scaleOf s = record { curve = curveOf s; start = 0; span = topOf (s .width) }
+
+-- the power that makes the exact value x: base ^ exponent = x / factor + less
+abbrev pub powerFor : Curve → Fraction → Fraction
+powerFor c x = x /ℚ factor c +ℚ less c
+
+-- x R the exact value, in the toe and in the power part
+pub data VersusPart (R : ℕ → ℕ → Type 0) (c : Curve) (t x : Fraction) : Bool → Type 0 where
+  toe : Versus R x (toeValue c t) → VersusPart R c t x true
+  power : VersusPower R (powerFor c x) (base c) (exponent c t) → VersusPart R c t x false
+
+-- x R the exact value at the code n. R is an order or the equality of whole numbers.
+abbrev pub VersusExact : (ℕ → ℕ → Type 0) → Scale → Fraction → Fraction → Type 0
+VersusExact R k n x = VersusPart R (k .curve) (signal k n) x (inToe (k .curve) (signal k n))

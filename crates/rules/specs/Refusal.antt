@@ -1,0 +1,34 @@
+-- 01, "Refused, by the place of the check": the number of each cause.
+-- Assumes nothing.
+use Prim.Native.Nat.{ℕ}
+use Rattle.rules.specs.declared.Refusal.{Refusal}
+use Rattle.rules.specs.declared.Refusal.the-variants.{PartialRecord, ShortOutput, UnknownCurve, UnknownWidth, UnknownEi, CodeAboveTop, SceneOutOfRange, FloatNotFinite, FloatOutOfRange, NoPixel}
+use Rattle.rules.specs.declared.Check.{Check}
+use Rattle.rules.specs.declared.Check.the-variants.{Passed, Refused}
+
+abbrev pub numberOf : Refusal → ℕ
+-- strips: input is not a whole number of records
+numberOf PartialRecord = 1
+-- strips: output shorter than the records need
+numberOf ShortOutput = 2
+-- setting: curve is neither 3 nor 4
+numberOf UnknownCurve = 3
+-- setting: width not one of the curve's
+numberOf UnknownWidth = 4
+-- setting: EI not one of the curve's
+numberOf UnknownEi = 5
+-- channel: code above top
+numberOf CodeAboveTop = 6
+-- channel: scene number to encode outside -2^40 to 2^40
+numberOf SceneOutOfRange = 7
+-- channel: float infinite or not a number
+numberOf FloatNotFinite = 8
+-- channel: float below -65,536 or above 65,536
+numberOf FloatOutOfRange = 9
+-- record, way back: no pixel of this setting has this triple
+numberOf NoPixel = 10
+
+-- the second check's answer where the first passes
+abbrev pub then : Check → Check → Check
+then Passed next = next
+then (Refused r) next = Refused r

@@ -1,0 +1,34 @@
+// The types that the rules speak of. The rules themselves are in specs/.
+
+// A record's first four bytes: curve, width in bits, and EI (two bytes, read as one number).
+pub struct Setting {
+    pub curve: u8,
+    pub width: u8,
+    pub ei: u16,
+}
+
+// A code as the camera wrote it.
+pub struct Code(pub u16);
+
+// A scene number, in units of 2^-24.
+pub struct Scene(pub i64);
+
+// Why a conversion refuses: the rows of the table "Refused, by the place of the check".
+pub enum Refusal {
+    PartialRecord,
+    ShortOutput,
+    UnknownCurve,
+    UnknownWidth,
+    UnknownEi,
+    CodeAboveTop,
+    SceneOutOfRange,
+    FloatNotFinite,
+    FloatOutOfRange,
+    NoPixel,
+}
+
+// What a check answers.
+pub enum Check {
+    Passed,
+    Refused(Refusal),
+}

@@ -1,0 +1,5 @@
+pub mod Columns
+pub mod Powers
+pub mod Reflect
+pub mod Floor
+pub mod Tidy

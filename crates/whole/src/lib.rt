@@ -1,0 +1,17 @@
+// Whole numbers: the upper half of a product of two words. (proofs/ has the laws of ℤ that the other crates cite.)
+ghost use mathlib.Core.Path.{_≡_};
+ghost use Prim.Native.Nat.{_*_, _/_, _^_};
+
+// The upper 64 bits of a * b, by the digits of a and b in base 2^32, column by column.
+pub fn high_product(a: u64, b: u64) -> u64
+    ensures { λ r. ⌜ r ≡ a * b / 2 ^ 64 ⌝ }
+{
+    let a1 = a / 4294967296;
+    let a0 = a % 4294967296;
+    let b1 = b / 4294967296;
+    let b0 = b % 4294967296;
+    let first = a0 * b0 / 4294967296;
+    let second = a1 * b0 + first;
+    let third = a0 * b1 + second % 4294967296;
+    a1 * b1 + second / 4294967296 + third / 4294967296
+}
