@@ -16,7 +16,7 @@ use Rattle.power.proofs.Certificate.{below-by, above-by}
 use Rattle.power.proofs.Rows.{In, in-one, in-at, in-squares, in-high, row-at}
 use Rattle.table.specs.Table.{fine}
 use Rattle.curve.specs.Decoded.{product}
-use Rattle.curve.proofs.Tests.{Source, slack, small-at, nth, passes, every, tests, bitsOf, b, by, q, unit, begin, entry, first, base-positive, cancels, entries-small, first-high, first-low, least-large, low-count, low-row, middle-count, middle-row, quotient-positive, ratio-high, ratio-low, scales, top-count, top-row, unit-positive}
+use Rattle.curve.proofs.Tests.{Source, slack, below-at, nth, passes, every, tests, bitsOf, b, by, q, unit, begin, entry, first, base-positive, cancels, entries-small, first-high, first-low, least-large, low-count, low-row, middle-count, middle-row, quotient-positive, ratio-high, ratio-low, scales, top-count, top-row, unit-positive}
 
 -- ---- digits and scales
 sums : (m a x y z : ℕ) → m + x * (a * 2 ^ 10) + (0 + y * (a * 2 ^ 5)) + (0 + z * a) ≡ m + (x * 2 ^ 10 + y * 2 ^ 5 + z) * a
@@ -94,7 +94,7 @@ module _ (k : Scale) (top : ℕ) (t : List ℕ) (s : Source) (ok : T (every (tes
 
   entry-small : (j : ℕ) → getD t j 0 < 2 ^ 64
   unfolding nth
-  entry-small j = small-at t (passes (tests k top t s) ok entries-small) j
+  entry-small j = below-at (2 ^ 64) (lit< tt) t (passes (tests k top t s) ok entries-small) j
 
   shifted : s .shift * (2 ^ 63 / s .shift) ≡ 2 ^ 63
   unfolding nth

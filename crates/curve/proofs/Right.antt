@@ -15,7 +15,7 @@ use Rattle.rules.specs.Curve.{Curve, logC4, logC3, Constants, inToe}
 use Rattle.rules.specs.Exact.{Scale, signal, VersusPart}
 use Rattle.rules.specs.Decoding.{DecodesPart, Decodes}
 use Rattle.table.specs.Table.{fine}
-use Rattle.curve.specs.declared.Decoder.{Decoder}
+use Rattle.curve.specs.declared.decoder.Decoder.{Decoder}
 use Rattle.curve.specs.Decoded.{offset, product, toeRaw, powerRaw, rawBy, decoderOf, firstOf, toeOf, overOf}
 use Rattle.curve.proofs.Tests.{Source, nth, passes, every, tests, toeTests, first, bias, ratio-above-one, steps, toe-right, toe-added, toe-divisor, toe-steps, border-rises}
 use Rattle.curve.proofs.Law.{no-less, next-low}
@@ -97,7 +97,7 @@ module _ (c : Constants) (start span top : ℕ) (t : List ℕ) (s : Source) (ok 
   unfolding nth
   room = leb→le (2 ^ 25 * (1000000 * start + c .f * span)) (c .e * span * (2 * offset + 1)) (toe-test toe-added)
 
-  divisor : 0 < c .e * span
+  pub divisor : 0 < c .e * span
   unfolding nth
   divisor = ltb→lt 0 (c .e * span) (toe-test toe-divisor)
 

@@ -3,7 +3,7 @@
 use mathlib.Core.Bool.{Bool, true, false}
 use mathlib.Core.List.{List, [], _∷_}
 use Prim.Native.Nat.{ℕ, zero, suc, _+_, _-_, _*_, _/_, _%_, _^_, _<_}
-use lib.Dec.{T, leb, ltb, eqb, ltb→lt, lit<}
+use lib.Dec.{T, leb, ltb, eqb, ltb→lt}
 use lib.ListN.{length, getD, take, drop}
 use Rattle.rules.specs.Choice.{choose}
 use Rattle.rules.specs.Curve.{Curve, logC4, logC3, base, less, factor}
@@ -13,7 +13,7 @@ use Rattle.power.specs.Progression.{squareDown, squareUp}
 use Rattle.power.proofs.Certificate.{both, both-left, both-right, up-run, down-run}
 use Rattle.power.proofs.Rows.{row}
 use Rattle.table.specs.Table.{lift, fine}
-use Rattle.curve.specs.Decoded.{offset, product, rawBy, decoderOf, firstOf, biasOf}
+use Rattle.curve.specs.Decoded.{offset, product, rawBy, decoderOf, firstOf, biasOf, toeOf}
 use Rattle.curve.proofs.Cleared.{rise, exponentAt}
 
 -- ---- lists of tests
@@ -33,14 +33,15 @@ passes [] h k = tt
 passes (x ∷ xs) h zero = both-left x (every xs) h
 passes (x ∷ xs) h (suc k) = passes xs (both-right x (every xs) h) k
 
-abbrev pub small : List ℕ → Bool
-small [] = true
-small (v ∷ vs) = both (ltb v (2 ^ 64)) (small vs)
+-- every number of a list is below m
+abbrev pub allBelow : ℕ → List ℕ → Bool
+allBelow m [] = true
+allBelow m (v ∷ vs) = both (ltb v m) (allBelow m vs)
 
-pub small-at : (vs : List ℕ) → T (small vs) → (k : ℕ) → getD vs k 0 < 2 ^ 64
-small-at [] h k = lit< tt
-small-at (v ∷ vs) h zero = ltb→lt v (2 ^ 64) (both-left (ltb v (2 ^ 64)) (small vs) h)
-small-at (v ∷ vs) h (suc k) = small-at vs (both-right (ltb v (2 ^ 64)) (small vs) h) k
+pub below-at : (m : ℕ) → 0 < m → (vs : List ℕ) → T (allBelow m vs) → (k : ℕ) → getD vs k 0 < m
+below-at m p [] h k = p
+below-at m p (v ∷ vs) h zero = ltb→lt v m (both-left (ltb v m) (allBelow m vs) h)
+below-at m p (v ∷ vs) h (suc k) = below-at m p vs (both-right (ltb v m) (allBelow m vs) h) k
 
 -- the binary digits of n after the first, the highest first
 abbrev bitsFrom : (count n : ℕ) → List Bool → List Bool
@@ -131,7 +132,7 @@ tests k top t s =
     ∷ down-run (b k) fine (q k) (begin k) (s .front) (s .first + slack) (bitsOf (q k)) 1 (s .front) (s .first + slack)
     ∷ ltb 0 (unit k)
     ∷ eqb (s .shift * (2 ^ 63 / s .shift)) (2 ^ 63)
-    ∷ small t
+    ∷ allBelow (2 ^ 64) t
     ∷ row fine (entry k) (4 * (s .shift * unit k)) (squareDown fine 10 (s .ratio)) (squareUp fine 10 (s .ratio + slack)) (b k ^ s .front * s .first) (b k ^ s .front * (s .first + slack)) (take (top / 1024 + 1) t)
     ∷ row fine 1 (2 ^ 63 / s .shift) (squareDown fine 5 (s .ratio)) (squareUp fine 5 (s .ratio + slack)) fine fine (take 32 (drop 64 t))
     ∷ row fine 1 (2 ^ 63) (s .ratio) (s .ratio + slack) fine fine (take 32 (drop 96 t))
@@ -149,6 +150,8 @@ tests k top t s =
     ∷ ltb 0 (kappa k)
     ∷ ltb 0 (k .span)
     ∷ every (toeTests (k .curve) (k .start) (k .span) t)
+    ∷ allBelow (3 * 2 ^ 62) (drop 96 t)
+    ∷ ltb (2 ^ 25 * 1000000 * top + toeOf (k .curve) (k .start) (k .span)) (2 ^ 62)
     ∷ []
 
 -- ---- the tests by their places in the lists
@@ -226,6 +229,12 @@ span-positive = 23
 
 abbrev pub toe-right : ℕ
 toe-right = 24
+
+abbrev pub lows-small : ℕ
+lows-small = 25
+
+abbrev pub toe-small : ℕ
+toe-small = 26
 
 -- of toeTests
 abbrev pub toe-added : ℕ

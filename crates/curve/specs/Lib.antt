@@ -1,1 +1,3 @@
+pub mod Constants
 pub mod Decoded
+pub mod Answer

@@ -1,11 +1,45 @@
-// The decoded numbers: what decoding needs of a setting besides its table. specs/ defines the numbers, proofs/ shows that they
-// are what the rules ask.
+// Decoding: the scene number of a code.
+ghost use mathlib.Core.Path.{_≡_};
+ghost use Rattle.rules.specs.Setting.{codeCheck, Valid};
+ghost use Rattle.curve.specs.Decoded.{decoded};
+ghost use Rattle.curve.specs.Answer.{sceneAfter, decodeAnswer};
 
-// first: the first code of the power part. bias: what is added to a product of table entries before it is rounded.
-// toe and over: in the toe, what is added, and what is divided by.
-pub struct Decoder {
-    pub first: u64,
-    pub bias: u64,
-    pub toe: u64,
-    pub over: u64,
+pub mod constants;
+pub mod decoder;
+
+use decoder::Decoder;
+use rules::Check;
+use rules::Code;
+use rules::Refusal;
+use rules::Scene;
+use rules::Setting;
+
+// What decoding one code answers.
+pub enum Decoding {
+    Scene(Scene),
+    Refused(Refusal),
+}
+
+fn decode_valid(s: Setting, n: Code) -> Decoding
+    requires { ⌜ Valid s ⌝ }
+    ensures { λ r. ⌜ r ≡ sceneAfter (codeCheck s (n .0)) (record { 0 = decoded s (n .0) }) ⌝ }
+{
+    match setting::check_code(s, n) {
+        Check::Refused(r) => Decoding::Refused(r),
+        Check::Passed => {
+            let d = Decoder::new(s);
+            let t = table::table(s);
+            Decoding::Scene(d.scene(&t, n.0 as u64))
+        }
+    }
+}
+
+// The scene number of a code, or the refusal of the first check that fails: 3, 4, 5, then 6.
+pub fn decode(s: Setting, n: Code) -> Decoding
+    ensures { λ r. ⌜ r ≡ decodeAnswer s (n .0) ⌝ }
+{
+    match setting::check_setting(s) {
+        Check::Refused(r) => Decoding::Refused(r),
+        Check::Passed => decode_valid(s, n),
+    }
 }

@@ -3,16 +3,16 @@
 use mathlib.Core.Bool.{Bool, true, false}
 use mathlib.Core.List.{List, [], _∷_}
 use mathlib.Core.Path.{_≡_, refl, sym, subst}
-use Prim.Native.Nat.{ℕ}
-use lib.Dec.{T, eqb, eqb→eq}
+use Prim.Native.Nat.{ℕ, _≤_}
+use lib.Dec.{T, eqb, eqb→eq, leb, leb→le}
 use Rattle.rules.specs.declared.Setting.{Setting}
 use Rattle.rules.specs.declared.Check.{Check}
 use Rattle.rules.specs.declared.Check.the-variants.{Passed, Refused}
 use Rattle.rules.specs.declared.Refusal.{Refusal}
-use Rattle.rules.specs.declared.Refusal.the-variants.{UnknownCurve, UnknownWidth, UnknownEi}
+use Rattle.rules.specs.declared.Refusal.the-variants.{UnknownCurve, UnknownWidth, UnknownEi, CodeAboveTop}
 use Rattle.rules.specs.Choice.{choose, member}
 use Rattle.rules.specs.Refusal.{then}
-use Rattle.rules.specs.Setting.{curves, widthsOf, eisOf, refuseUnless, settingCheck, Valid}
+use Rattle.rules.specs.Setting.{curves, widthsOf, eisOf, topOf, refuseUnless, settingCheck, codeCheck, Valid}
 
 -- ---- lists
 abbrev pub forAll : List ℕ → (ℕ → Bool) → Bool
@@ -81,3 +81,7 @@ for-valid p h s v =
     (members s v .width))
     (s .ei)
     (members s v .ei)
+
+-- a code that passes is at most the top code
+pub code-passed : (s : Setting) (n : ℕ) → codeCheck s n ≡ Passed → n ≤ topOf (s .width)
+code-passed s n e = leb→le n (topOf (s .width)) (passed-only (leb n (topOf (s .width))) CodeAboveTop e)

@@ -3,3 +3,5 @@ pub mod Powers
 pub mod Reflect
 pub mod Floor
 pub mod Tidy
+pub mod Sizes
+pub mod Words

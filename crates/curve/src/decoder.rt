@@ -1,0 +1,126 @@
+// Decoding with what is kept of a setting: a decoder and a table.
+ghost use mathlib.Core.Path.{_≡_};
+ghost use Prim.Native.Nat.{_+_, _-_, _*_, _/_, _^_, _≤_, _<_};
+ghost use Rattle.rules.specs.Curve.{logC3};
+ghost use Rattle.rules.specs.Setting.{Valid};
+ghost use Rattle.rules.specs.Exact.{scaleOf};
+ghost use Rattle.curve.specs.Constants.{constantsOf, Small};
+ghost use Rattle.curve.specs.Decoded.{product, rawBy, decodedBy, decoderOf, Fits};
+use super::constants::Curve;
+use rules::Scene;
+use rules::Setting;
+
+// first: the first code of the power part. bias: what is added to a product of table entries before it is rounded.
+// toe and over: in the toe, what is added, and what is divided by.
+pub struct Decoder {
+    pub first: u64,
+    pub bias: u64,
+    pub toe: u64,
+    pub over: u64,
+}
+
+// The product of the entries of a code's three digits.
+fn scaled(t: &[u64; 128], n: u64) -> u64
+    requires { ⌜ n < 2 ^ 16 ⌝ }
+    ensures { λ r. ⌜ r ≡ product (now (t .entry)) n ⌝ }
+{
+    let i = n as usize;
+    let upper = whole::high_product(t[i / 1024], t[64 + i / 32 % 32]);
+    whole::high_product(upper, t[96 + i % 32])
+}
+
+// The first code above the toe's border, e * cut + f.
+fn first_code(cut: u64, e: u64, f: u64, top: u64) -> u64
+    requires { ⌜ (cut < 2 ^ 14) × (e < 2 ^ 23) × (f < 2 ^ 17) × (top < 2 ^ 16) ⌝ }
+    ensures { λ r. ⌜ r ≡ (e * cut + 1000000 * f) * top / 10 ^ 12 + 1 ⌝ }
+{
+    (e * cut + 1000000 * f) * top / 1000000000000 + 1
+}
+
+// 2^53 * b / a, rounded down: 2^53 * b may be more than a word, so it is divided in two steps.
+fn lower(b: u64) -> u64
+    requires { ⌜ b < 2 ^ 17 ⌝ }
+    ensures { λ r. ⌜ r ≡ 2 ^ 53 * b / 5555556 ⌝ }
+{
+    let high = 1099511627776 * b;
+    high / Curve::A * 8192 + high % Curve::A * 8192 / Curve::A
+}
+
+fn bias(b: u64) -> u64
+    requires { ⌜ b < 2 ^ 17 ⌝ }
+    ensures { λ r. ⌜ r ≡ 2097153 * 2 ^ 28 - 2 ^ 53 * b / 5555556 ⌝ }
+{
+    562950221856768 - lower(b)
+}
+
+fn toe_added(e: u64, f: u64, top: u64) -> u64
+    requires { ⌜ (2 ^ 22 ≤ e) × (e < 2 ^ 23) × (f < 2 ^ 17) × (top < 2 ^ 16) ⌝ }
+    ensures { λ r. ⌜ r ≡ e * top * 2097153 - 2 ^ 25 * (f * top) ⌝ }
+{
+    e * top * 2097153 - 33554432 * (f * top)
+}
+
+fn toe_divisor(e: u64, top: u64) -> u64
+    requires { ⌜ (e < 2 ^ 23) × (top < 2 ^ 16) ⌝ }
+    ensures { λ r. ⌜ r ≡ 2 * (e * top) ⌝ }
+{
+    2 * (e * top)
+}
+
+impl Decoder {
+    // Curve 4 has no toe.
+    pub const LOG_C4: Decoder = Decoder {
+        first: 0,
+        bias: 304659175657823,
+        toe: 0,
+        over: 0,
+    };
+
+    // Curve 3 at a top code.
+    fn log_c3(k: Curve, top: u64) -> Decoder
+        requires { ⌜ Small (constantsOf k) ⌝ }
+        requires { ⌜ top < 2 ^ 16 ⌝ }
+        ensures { λ r. ⌜ r ≡ decoderOf (record { curve = logC3 (constantsOf k); start = 0; span = top }) ⌝ }
+    {
+        Decoder {
+            first: first_code(k.cut, k.e, k.f, top),
+            bias: bias(k.b),
+            toe: toe_added(k.e, k.f, top),
+            over: toe_divisor(k.e, top),
+        }
+    }
+
+    // The decoder of a setting.
+    pub fn new(s: Setting) -> Decoder
+        requires { ⌜ Valid s ⌝ }
+        ensures { λ r. ⌜ r ≡ decoderOf (scaleOf s) ⌝ }
+    {
+        if s.curve == 3 {
+            Decoder::log_c3(Curve::log_c3(s.ei), setting::top_code(s) as u64)
+        } else {
+            Decoder::LOG_C4
+        }
+    }
+
+    // The number of a code, with 2^20 added.
+    pub fn raw(self, t: &[u64; 128], n: u64) -> u64
+        requires { ⌜ Fits self (now t) n ⌝ }
+        ensures { λ r. ⌜ r ≡ rawBy self (now (t .entry)) n ⌝ }
+    {
+        let toe = self.toe;
+        let over = self.over;
+        let bias = self.bias;
+        if n < self.first {
+            return (33554432000000 * n + toe) / over;
+        }
+        (scaled(t, n) + bias) / 536870912
+    }
+
+    // The scene number of a code.
+    pub fn scene(self, t: &[u64; 128], n: u64) -> Scene
+        requires { ⌜ Fits self (now t) n ⌝ }
+        ensures { λ r. ⌜ r .0 ≡ decodedBy self (now (t .entry)) n ⌝ }
+    {
+        Scene(self.raw(t, n) as i64 - 1048576)
+    }
+}

@@ -1,0 +1,24 @@
+-- What the tests of the code say of the checks of the rules.
+-- Assumes nothing.
+use mathlib.Core.Bool.{Bool, true, false}
+use mathlib.Core.Path.{_≡_, refl, sym, subst}
+use Prim.Native.Nat.{ℕ}
+use lib.Dec.{T, eqb, eqb→eq}
+use borrow.Author.Tests.{ne-eqb}
+use Rattle.rules.specs.Choice.{choose}
+use Rattle.rules.specs.declared.Setting.{Setting}
+use Rattle.rules.specs.Setting.{Valid}
+use Rattle.rules.proofs.Settings.{for-valid}
+
+-- a test, chosen by itself
+pub itself : (x : Bool) → x ≡ choose x true false
+itself true = refl
+itself false = refl
+
+-- ---- the widths that there are
+isWidth : ℕ → Bool
+isWidth w = choose (eqb w 10) true (choose (eqb w 12) true (eqb w 16))
+
+pub last-width : (s : Setting) → Valid s → (s .width ≡ 10 → ⊥) → (s .width ≡ 12 → ⊥) → s .width ≡ 16
+unfolding isWidth
+last-width s v f g = eqb→eq (s .width) 16 (rw (ne-eqb (s .width) 10 f, ne-eqb (s .width) 12 g) at (for-valid (λ c w e. isWidth w) tt s v))
