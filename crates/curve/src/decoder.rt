@@ -10,6 +10,14 @@ use super::constants::Curve;
 use rules::Scene;
 use rules::Setting;
 
+// A number is computed with 2^20 added, so that none is below 0. Twice that and 1: the offset and a half, in halves.
+const OFFSET: i64 = 1048576;
+
+const HALVES: u64 = 2097153;
+
+// 2^25 * 10^6: twice a unit, in the toe's millionths.
+const TOE_RISE: u64 = 33554432000000;
+
 // first: the first code of the power part. bias: what is added to a product of table entries before it is rounded.
 // toe and over: in the toe, what is added, and what is divided by.
 pub struct Decoder {
@@ -46,18 +54,20 @@ fn lower(b: u64) -> u64
     high / Curve::A * 8192 + high % Curve::A * 8192 / Curve::A
 }
 
+// (2^20 + 1/2 - b / a * 2^24) * 2^29.
 fn bias(b: u64) -> u64
     requires { ⌜ b < 2 ^ 17 ⌝ }
     ensures { λ r. ⌜ r ≡ 2097153 * 2 ^ 28 - 2 ^ 53 * b / 5555556 ⌝ }
 {
-    562950221856768 - lower(b)
+    HALVES * 268435456 - lower(b)
 }
 
+// (2^20 + 1/2) * 2 * e * top, less 2^25 * f * top.
 fn toe_added(e: u64, f: u64, top: u64) -> u64
     requires { ⌜ (2 ^ 22 ≤ e) × (e < 2 ^ 23) × (f < 2 ^ 17) × (top < 2 ^ 16) ⌝ }
     ensures { λ r. ⌜ r ≡ e * top * 2097153 - 2 ^ 25 * (f * top) ⌝ }
 {
-    e * top * 2097153 - 33554432 * (f * top)
+    e * top * HALVES - 33554432 * (f * top)
 }
 
 fn toe_divisor(e: u64, top: u64) -> u64
@@ -102,8 +112,8 @@ impl Decoder {
         }
     }
 
-    // The number of a code, with 2^20 added.
-    pub fn raw(self, t: &[u64; 128], n: u64) -> u64
+    // The number of a code, with the offset.
+    fn raw(self, t: &[u64; 128], n: u64) -> u64
         requires { ⌜ Fits self (now t) n ⌝ }
         ensures { λ r. ⌜ r ≡ rawBy self (now (t .entry)) n ⌝ }
     {
@@ -111,7 +121,7 @@ impl Decoder {
         let over = self.over;
         let bias = self.bias;
         if n < self.first {
-            return (33554432000000 * n + toe) / over;
+            return (TOE_RISE * n + toe) / over;
         }
         (scaled(t, n) + bias) / 536870912
     }
@@ -121,6 +131,6 @@ impl Decoder {
         requires { ⌜ Fits self (now t) n ⌝ }
         ensures { λ r. ⌜ r .0 ≡ decodedBy self (now (t .entry)) n ⌝ }
     {
-        Scene(self.raw(t, n) as i64 - 1048576)
+        Scene(self.raw(t, n) as i64 - OFFSET)
     }
 }

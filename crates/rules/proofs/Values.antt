@@ -3,12 +3,12 @@
 use mathlib.Core.Path.{_≡_, sym, ap, ap₂, _∙_, subst, subst₂}
 use mathlib.Core.Logic.{_≢_}
 use Prim.Native.Nat.{ℕ, zero, _+_, _-_, _*_, _^_, _≤_, _<_}
-use native.Mathlib.Nat.{le-of-eq, le-antisymm, lt-of-not-le, not-le-of-lt, le-of-suc-le-suc, ne-of-gt, mul-assoc, mul-comm, mul-left-comm, mul-sub, mul-pos, one-le-pow, mul-le-mul-right, le-of-mul-le-mul-right, mul-lt-mul-of-pos-right, lt-of-mul-lt-mul-right, pow-le-pow-left, pow-lt-pow-left}
+use native.Mathlib.Nat.{le-of-eq, le-antisymm, lt-of-not-le, not-le-of-lt, le-of-suc-le-suc, ne-of-gt, mul-assoc, mul-comm, mul-left-comm, mul-sub, mul-one, mul-pos, pow-zero, one-le-pow, mul-le-mul-right, le-of-mul-le-mul-right, mul-lt-mul-of-pos-right, lt-of-mul-lt-mul-right, pow-le-pow-left, pow-lt-pow-left}
 use native.Mathlib.Omega.{arith}
-use lib.Dec.{T, leb→le, le→leb}
+use lib.Dec.{T, leb→le, le→leb, lit<}
 use lib.Pow.{pow-add}
-use Rattle.whole.proofs.Powers.{mul-pow, pow-mul}
-use Rattle.rules.specs.Fraction.{Fraction, Versus, VersusPower, cleared, atMost}
+use Rattle.whole.proofs.Powers.{pow-one, mul-pow, pow-mul}
+use Rattle.rules.specs.Fraction.{Fraction, whole, Versus, VersusPower, cleared, atMost}
 
 -- what a comparison of powers asks of R: a factor above 0, and an exponent above 0, may be put on both sides and taken off
 pub record Ordered (R : ℕ → ℕ → Type 0) : Type 0 where
@@ -106,3 +106,22 @@ module _ {R : ℕ → ℕ → Type 0} (o : Ordered R) (b : ℕ) (pb : 0 < b) whe
     where
       difference : (i j k l m n : ℕ) → i * k + m * n ≡ l * n + j * k → (i - j) * k ≡ (l - m) * n
       difference i j k l m n e = omega (arith, mul-comm (i - j) k ∙ mul-sub k i j, mul-comm (l - m) n ∙ mul-sub n l m)
+
+  -- an exponent that is a whole number
+  pub at-whole : (x p : Fraction) (e : ℕ) → 0 < x .over → 0 < p .over → Versus (λ m n. m ≡ n) p (whole e) → VersusPower R x b p → R (x .plus - x .minus) (b ^ e * x .over)
+  at-whole x p e px hp g h = plain (same-value x x p (whole e) px px hp (lit< tt) (omega arith) g h)
+    where
+      plain : VersusPower R x b (whole e) → R (x .plus - x .minus) (b ^ e * x .over)
+      plain (cleared f) =
+          subst₂ R (ap₂ (λ (u w : ℕ). u * w) (pow-one (x .plus - x .minus)) (pow-zero b) ∙ mul-one (x .plus - x .minus))
+          (ap (λ (w : ℕ). b ^ e * w) (pow-one (x .over)))
+          f
+
+  pub of-whole : (x p : Fraction) (e : ℕ) → 0 < x .over → 0 < p .over → Versus (λ m n. m ≡ n) p (whole e) → R (x .plus - x .minus) (b ^ e * x .over) → VersusPower R x b p
+  of-whole x p e px hp g h = same-value x x (whole e) p px px (lit< tt) hp (omega arith) (sym g) (cleared powers)
+    where
+      powers : R ((x .plus - x .minus) ^ 1 * b ^ 0) (b ^ e * x .over ^ 1)
+      powers =
+          subst₂ R (sym (ap₂ (λ (u w : ℕ). u * w) (pow-one (x .plus - x .minus)) (pow-zero b) ∙ mul-one (x .plus - x .minus)))
+          (sym (ap (λ (w : ℕ). b ^ e * w) (pow-one (x .over))))
+          h

@@ -32,3 +32,8 @@ numberOf NoPixel = 10
 abbrev pub then : Check → Check → Check
 then Passed next = next
 then (Refused r) next = Refused r
+
+-- the number of a check's answer; 0 where it passes
+abbrev pub numberOfCheck : Check → ℕ
+numberOfCheck Passed = 0
+numberOfCheck (Refused r) = numberOf r

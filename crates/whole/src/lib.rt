@@ -1,6 +1,8 @@
-// Whole numbers: the upper half of a product of two words. (proofs/ has the laws of ℤ that the other crates cite.)
+// Whole numbers: the upper half of a product of two words, and a number without its sign. (proofs/ has the laws of ℤ that the other
+// crates cite.)
 ghost use mathlib.Core.Path.{_≡_};
 ghost use Prim.Native.Nat.{_*_, _/_, _^_};
+ghost use lib.IntN.{natAbs};
 
 // The upper 64 bits of a * b, by the digits of a and b in base 2^32, column by column.
 pub fn high_product(a: u64, b: u64) -> u64
@@ -14,4 +16,11 @@ pub fn high_product(a: u64, b: u64) -> u64
     let second = a1 * b0 + first;
     let third = a0 * b1 + second % 4294967296;
     a1 * b1 + second / 4294967296 + third / 4294967296
+}
+
+// A signed number without its sign.
+pub fn magnitude(z: i64) -> u64
+    ensures { λ r. ⌜ r ≡ natAbs z ⌝ }
+{
+    if z < 0 { (-1 - z) as u64 + 1 } else { z as u64 }
 }

@@ -1,0 +1,76 @@
+-- The marked checks hold.
+-- Assumes nothing.
+use mathlib.Core.Bool.{Bool, true, false}
+use mathlib.Core.Logic.{_⊎_, inl, inr}
+use mathlib.Core.Path.{_≡_, refl, ap, subst}
+use Prim.Native.Nat.{ℕ, zero, suc, _+_, _-_, _*_, _^_, _≤_, _<_}
+use native.Mathlib.Omega.{arith}
+use borrow.Author.Tests.{eqb-true, eqb-false}
+use lib.Dec.{eqb, lit<}
+use lib.IntN.{ℤ, pos, negsuc}
+use Rattle.whole.specs.Parts.{up, dn}
+use Rattle.whole.proofs.Reflect.{one-zero}
+use Rattle.whole.proofs.Tidy.{tidy}
+use Rattle.rules.specs.Fraction.{Fraction, whole, ratio, integer, _+ℚ_, _-ℚ_, _*ℚ_, VersusPower}
+use Rattle.rules.specs.Setting.{settingCheck}
+use Rattle.rules.specs.Curve.{logC4, exponent}
+use Rattle.rules.specs.Exact.{Scale, signal, scaleOf, powerFor, VersusPart}
+use Rattle.rules.specs.Decoding.{Less, Greater, Decodes, DecodesPart, nearness, unit}
+use Rattle.rules.proofs.Values as values
+use Rattle.checks.specs.Marked.{Marked, setting}
+
+abbrev curve4 : Scale
+curve4 = scaleOf (setting 4 12 0)
+
+-- the exponent of code 4095 is 20
+abbrev exponent-4095 : Fraction
+exponent-4095 = exponent logC4 (signal curve4 (whole 4095))
+
+-- y - 1 is below the exact value, and y + 1 above it
+below-4095 : (y : ℤ) → VersusPower Less (powerFor logC4 ((integer y -ℚ nearness) *ℚ unit)) 2 exponent-4095 → up y ≤ 7881936077
+below-4095 y h =
+    omega (arith, one-zero y, simp tidy at (values.at-whole values.less 2 (lit< tt) (powerFor logC4 ((integer y -ℚ nearness) *ℚ unit)) exponent-4095 20 (lit< tt) (lit< tt) refl h))
+
+above-4095 : (y : ℤ) → VersusPower Greater (powerFor logC4 ((integer y +ℚ nearness) *ℚ unit)) 2 exponent-4095 → 7881936076 ≤ up y
+above-4095 y h =
+    omega (arith, one-zero y, simp tidy at (values.at-whole (values.flip values.less) 2 (lit< tt) (powerFor logC4 ((integer y +ℚ nearness) *ℚ unit)) exponent-4095 20 (lit< tt) (lit< tt) refl h))
+
+one-of-two : (y : ℤ) → up y ≤ 7881936077 → 7881936076 ≤ up y → (y ≡ pos 7881936076) ⊎ (y ≡ pos 7881936077)
+one-of-two (pos n) h g = go (eqb n 7881936076) refl
+  where
+    go : (x : Bool) → eqb n 7881936076 ≡ x → (pos n ≡ pos 7881936076) ⊎ (pos n ≡ pos 7881936077)
+    go true e = inl (ap pos (eqb-true n 7881936076 e))
+    go false e = inr (ap pos (other (eqb-false n 7881936076 e)))
+      where
+        other : (n ≡ 7881936076 → ⊥) → n ≡ 7881936077
+        other k = omega arith
+one-of-two (negsuc n) h g = absurd (omega arith)
+
+code-4095-units : (y : ℤ) → Decodes curve4 4095 y → (y ≡ pos 7881936076) ⊎ (y ≡ pos 7881936077)
+code-4095-units y (DecodesPart.power (VersusPart.power l) (VersusPart.power h)) = one-of-two y (below-4095 y l) (above-4095 y h)
+
+code-4095 : VersusPart (λ m n. m ≡ n) logC4 (signal curve4 (whole 4095)) (ratio 2349 5) false
+code-4095 = VersusPart.power (values.of-whole values.equal 2 (lit< tt) (powerFor logC4 (ratio 2349 5)) exponent-4095 20 (lit< tt) (lit< tt) refl refl)
+
+code-0 : (y : ℤ) → Decodes (scaleOf (setting 3 12 800)) 0 y → y ≡ negsuc 290084
+code-0 y (DecodesPart.toe e) = e
+
+code-100 : (y : ℤ) → Decodes (scaleOf (setting 3 12 800)) 100 y → y ≡ negsuc 213757
+code-100 y (DecodesPart.toe e) = e
+
+-- THE LIST
+pub marked : Marked
+unfolding settingCheck
+marked =
+    record {
+      code-4095 = code-4095;
+      code-4095-units = code-4095-units;
+      code-0 = code-0;
+      code-100 = code-100;
+      code-612 = refl;
+      code-613 = refl;
+      ei-800 = refl;
+      ei-2000 = refl;
+      code-1023 = refl;
+      code-1024 = refl;
+    }

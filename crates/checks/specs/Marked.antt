@@ -1,0 +1,38 @@
+-- 01, "Marked and unmarked checks": the marked ones, as statements about the rules.
+-- Assumes nothing.
+use mathlib.Core.Bool.{true, false}
+use mathlib.Core.Path.{_≡_}
+use mathlib.Core.Logic.{_⊎_}
+use Prim.Native.Nat.{ℕ}
+use lib.IntN.{ℤ, pos, negsuc}
+use Rattle.rules.specs.declared.Check.the-variants.{Passed}
+use Rattle.rules.specs.declared.Setting.{Setting}
+use Rattle.rules.specs.Fraction.{ratio, whole}
+use Rattle.rules.specs.Refusal.{then, numberOfCheck}
+use Rattle.rules.specs.Curve.{inToe}
+use Rattle.rules.specs.Setting.{settingCheck, codeCheck, curveOf}
+use Rattle.rules.specs.Exact.{signal, scaleOf, VersusExact}
+use Rattle.rules.specs.Decoding.{Decodes}
+
+abbrev pub setting : (curve width ei : ℕ) → Setting
+setting curve width ei = record { curve = curve; width = width; ei = ei }
+
+pub record Marked : Type 0 where
+  -- "curve 4, width 12, code 4095 is exactly 2349/5,
+  pub code-4095 : VersusExact (λ m n. m ≡ n) (scaleOf (setting 4 12 0)) (whole 4095) (ratio 2349 5)
+  -- so 7,881,936,076 or 7,881,936,077."
+  pub code-4095-units : (y : ℤ) → Decodes (scaleOf (setting 4 12 0)) 4095 y → (y ≡ pos 7881936076) ⊎ (y ≡ pos 7881936077)
+  -- "Curve 3, EI 800, width 12: code 0 is -290,085;
+  pub code-0 : (y : ℤ) → Decodes (scaleOf (setting 3 12 800)) 0 y → y ≡ negsuc 290084
+  -- code 100 is -213,758;
+  pub code-100 : (y : ℤ) → Decodes (scaleOf (setting 3 12 800)) 100 y → y ≡ negsuc 213757
+  -- code 612 is toe, 613 power."
+  pub code-612 : inToe (curveOf (setting 3 12 800)) (signal (scaleOf (setting 3 12 800)) (whole 612)) ≡ true
+  pub code-613 : inToe (curveOf (setting 3 12 800)) (signal (scaleOf (setting 3 12 800)) (whole 613)) ≡ false
+  -- "Curve 4, width 12, EI 800: 5."
+  pub ei-800 : numberOfCheck (settingCheck (setting 4 12 800)) ≡ 5
+  -- "Curve 3, width 12, EI 2000: 5."
+  pub ei-2000 : numberOfCheck (settingCheck (setting 3 12 2000)) ≡ 5
+  -- "Curve 3, width 10, EI 800: 1023 passes, 1024 gives 6."
+  pub code-1023 : then (settingCheck (setting 3 10 800)) (codeCheck (setting 3 10 800) 1023) ≡ Passed
+  pub code-1024 : numberOfCheck (then (settingCheck (setting 3 10 800)) (codeCheck (setting 3 10 800) 1024)) ≡ 6

@@ -1,0 +1,108 @@
+#!/usr/bin/env python3
+"""decoded.py PROGRAM: have PROGRAM (target/bin/codes) decode every code of every setting, and settings and codes that must be
+refused, and hold each answer to the curves as 01 prints them, computed with 150 digits (powers) and fractions (the toe). Nothing
+of the project's code or tables is used."""
+import subprocess, sys, time
+from decimal import Decimal, getcontext
+from fractions import Fraction
+from math import floor
+
+getcontext().prec = 150
+UNIT = 2 ** 24
+DIGITS = 130  # of a value that is compared; the computation is good to more
+CONSTANTS = {  # EI: cut b c d e f
+    160: "0.005561 0.080216 0.269036 0.381991 5.842037 0.092778",
+    200: "0.006208 0.076621 0.266007 0.382478 5.776265 0.092782",
+    250: "0.006871 0.072941 0.262978 0.382966 5.710494 0.092786",
+    320: "0.007622 0.068768 0.259627 0.383508 5.637732 0.092791",
+    400: "0.008318 0.064901 0.256598 0.383999 5.571960 0.092795",
+    500: "0.009031 0.060939 0.253569 0.384493 5.506188 0.092800",
+    640: "0.009840 0.056443 0.250219 0.385040 5.433426 0.092805",
+    800: "0.010591 0.052272 0.247190 0.385537 5.367655 0.092809",
+    1000: "0.011361 0.047996 0.244161 0.386036 5.301883 0.092814",
+    1280: "0.012235 0.043137 0.240810 0.386590 5.229121 0.092819",
+    1600: "0.013047 0.038625 0.237781 0.387093 5.163350 0.092824",
+}
+WIDTHS = {3: (10, 12, 16), 4: (12, 16)}
+EIS = {3: tuple(CONSTANTS), 4: (0,)}
+SETTINGS = [(curve, width, ei) for curve in (3, 4) for width in WIDTHS[curve] for ei in EIS[curve]]
+
+
+def number(x):
+    return Decimal(x.numerator) / Decimal(x.denominator)
+
+
+def exact(curve, width, ei):
+    """of each code in turn: whether it is in the toe, and the exact value in units (a fraction in the toe, else a decimal)"""
+    top = 2 ** width - 1
+    if curve == 4:
+        base, first, step = 2, 6 - Fraction(14 * 95, 928), Fraction(14 * 1023, 928 * top)
+        less, factor, border = Decimal(64), Decimal(783) / Decimal(1747520), Fraction(-1)
+    else:
+        cut, b, c, d, e, f = (Fraction(x) for x in CONSTANTS[ei].split())
+        base, first, step = 10, -d / c, 1 / (c * top)
+        less, factor, border = number(b), 1 / Decimal("5.555556"), e * cut + f
+    power, ratio = Decimal(base) ** number(first), Decimal(base) ** number(step)
+    for n in range(top + 1):
+        t = Fraction(n, top)
+        if t > border:
+            yield False, (power - less) * factor * UNIT
+        else:
+            yield True, (t - f) / e * UNIT
+        power *= ratio
+
+
+def refusal(curve, width, ei, code):
+    if curve not in WIDTHS:
+        return 3
+    if width not in WIDTHS[curve]:
+        return 4
+    if ei not in EIS[curve]:
+        return 5
+    return 6 if code > 2 ** width - 1 else 0
+
+
+def record(curve, width, ei, code):
+    return bytes((curve, width)) + ei.to_bytes(2, "little") + code.to_bytes(2, "little")
+
+
+def main():
+    begun = time.time()
+    accepted = [record(*s, n) for s in SETTINGS for n in range(2 ** s[1])]
+    odd = [
+        (curve, width, ei, code)
+        for curve in (0, 1, 2, 3, 4, 5, 255)
+        for width in (0, 8, 10, 12, 14, 16, 17, 140, 255)
+        for ei in (0, 1, 159, 160, 800, 1600, 1601, 2000, 65535)
+        for code in (0, 1023, 1024, 4095, 4096, 65535)
+        if refusal(curve, width, ei, code)
+    ]
+    text = b"".join(accepted) + b"".join(record(*r) for r in odd) + b"\x03"
+    out = subprocess.run([sys.argv[1]], input=text, stdout=subprocess.PIPE, check=True).stdout.decode()
+    lines = out.split("\n")
+    assert len(lines) == len(accepted) + len(odd) + 2, len(lines)
+    assert lines[len(accepted):] == [f"refused {refusal(*r)}" for r in odd] + ["tail 1", ""], "a refusal differs"
+    answers = iter(lines)
+    tiny = Decimal(10) ** (10 - DIGITS)
+    nearest, worst = 0, Decimal(0)
+    for s in SETTINGS:
+        last = None
+        for toe, value in exact(*s):
+            y = int(next(answers))
+            if toe:
+                assert y == floor(value + Fraction(1, 2)), (s, y, value)
+                nearest += 1
+            else:
+                off = abs(y - value)
+                assert off + tiny < 1, (s, y, value)
+                nearest += off + tiny < Decimal("0.5")
+                worst = max(worst, off)
+            assert last is None or last < y, (s, y)
+            last = y
+    assert len(accepted) == 846848
+    print(f"decoded: {len(accepted)} codes of {len(SETTINGS)} settings are less than 1 unit from the exact value, and rise with the code")
+    print(f"decoded: {nearest} of them are the nearest whole number; the largest distance in the power part is {worst:.9f}")
+    print(f"decoded: {len(odd)} settings and codes are refused as listed ({time.time() - begun:.0f} s)")
+
+
+main()
