@@ -5,3 +5,5 @@ pub mod Curve
 pub mod Setting
 pub mod Exact
 pub mod Decoding
+pub mod Record
+pub mod Strip

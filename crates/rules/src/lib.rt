@@ -32,3 +32,9 @@ pub enum Check {
     Passed,
     Refused(Refusal),
 }
+
+// What a conversion of a strip answers: the count of records, or the refusal with the record's index.
+pub enum Answer {
+    Done(usize),
+    Refused(Refusal, usize),
+}
