@@ -6,19 +6,25 @@ use Prim.Native.Nat.{ℕ, _+_, _-_, _*_, _/_, _%_, _^_, _≤_, _<_}
 use native.Mathlib.Nat.{le-of-lt, lt-of-le-of-lt, mul-le-mul-left, mul-lt-mul-of-pos-right, mul-comm, div-lt-iff-lt-mul}
 use native.Mathlib.Omega.{arith}
 use lib.Dec.{T, ltb→lt, lit<}
+use mir.Syntax.{w64}
+use mir.Val.{SFits}
 use lib.ListN.{getD, drop}
 use lib.Seq.{getD-drop}
 use Rattle.rules.specs.Fraction.{whole, _*ℚ_}
 use Rattle.rules.specs.Curve.{Curve, logC4, logC3, less, factor}
 use Rattle.rules.specs.Exact.{Scale}
 use Rattle.rules.specs.declared.Setting.{Setting}
-use Rattle.rules.specs.Setting.{topOf, curveOf, Valid}
+use Rattle.rules.specs.declared.Check.the-variants.{Passed}
+use Rattle.rules.specs.Setting.{topOf, curveOf, codeCheck, Valid}
+use Rattle.rules.proofs.Settings.{code-passed}
+use Rattle.curve.specs.declared.decoder.Decoder.{Decoder}
+use Rattle.curve.specs.Ready.{Ready}
 use Rattle.rules.specs.Exact.{scaleOf}
 use Rattle.table.specs.Table.{tableOf}
-use Rattle.curve.specs.Decoded.{offset, product, Fits, decoderOf, firstOf, biasOf, toeOf, overOf, floor}
+use Rattle.curve.specs.Decoded.{offset, product, Fits, decoderOf, firstOf, biasOf, toeOf, overOf, floor, decodedBy, decoded, raw}
 use Rattle.curve.proofs.Tests.{Source, nth, passes, every, tests, below-at, entries-small, lows-small, toe-small}
 use Rattle.curve.proofs.Right.{divisor}
-use Rattle.curve.proofs.Program.{top-small}
+use Rattle.curve.proofs.Program.{top-small, raw-small, number-fits}
 use Rattle.curve.proofs.Settings.{sourceOf, passed}
 
 -- the upper half of a product of two words, and of one of them with a word below m
@@ -73,3 +79,14 @@ fits s v n h =
       toe = toe-fits (curveOf s) 0 (topOf (s .width)) (topOf (s .width)) (tableOf s) (sourceOf s) (passed s v) n h;
       over = λ g. over-fits (curveOf s) 0 (topOf (s .width)) (topOf (s .width)) (tableOf s) (sourceOf s) (passed s v) n g;
     }
+
+-- ---- with what is kept of a setting
+pub ready-fits : {s : Setting} {d : Decoder} {t : List ℕ} → Ready s d t → (n : ℕ) → codeCheck s n ≡ Passed → Fits d t n
+ready-fits {s} r n e = rw (r .decoder, r .table) (fits s (r .valid) n (code-passed s n e))
+
+pub ready-number : {s : Setting} {d : Decoder} {t : List ℕ} → Ready s d t → (n : ℕ) → decodedBy d t n ≡ decoded s n
+ready-number r n = rw (r .decoder, r .table)
+
+-- a decoded number fits a signed word
+pub decoded-fits : (s : Setting) → Valid s → (n : ℕ) → codeCheck s n ≡ Passed → SFits w64 (decoded s n)
+decoded-fits s v n e = number-fits (raw s n) (raw-small (fits s v n (code-passed s n e)))

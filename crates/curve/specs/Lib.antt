@@ -1,3 +1,4 @@
 pub mod Constants
 pub mod Decoded
 pub mod Answer
+pub mod Ready

@@ -136,6 +136,14 @@ pub length-record : (n : ℕ) (s : Setting) (c : Channels) → length (recordOf 
 unfolding recordOf
 length-record n s c = length-bytesOf (layout n) (row s c) refl ∙ omega arith
 
+-- a record, written stretch by stretch
+pub record-parts : (n : ℕ) (s : Setting) (c : Channels) → ((bytesOf (1 ∷ 1 ∷ 2 ∷ []) (s .curve ∷ s .width ∷ s .ei ∷ []) ++ digits n (c .red)) ++ digits n (c .green)) ++ digits n (c .blue) ≡ recordOf n s c
+unfolding recordOf bytesOf
+record-parts n s c = simp (append-assoc, append-nil)
+
+pub length-setting : (s : Setting) → length (bytesOf (1 ∷ 1 ∷ 2 ∷ []) (s .curve ∷ s .width ∷ s .ei ∷ [])) ≡ 4
+length-setting s = length-bytesOf (1 ∷ 1 ∷ 2 ∷ []) (s .curve ∷ s .width ∷ s .ei ∷ []) refl
+
 -- READING WHAT WAS WRITTEN returns it
 module _ (n : ℕ) (s : Setting) (c : Channels) (f : FitsRecord n s c) where
   read-row : row (settingOf (recordOf n s c)) (channelsOf n (recordOf n s c)) ≡ row s c

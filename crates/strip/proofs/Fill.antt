@@ -1,0 +1,66 @@
+-- The second pass: a loop that writes each record in its own stretch.
+-- Assumes nothing.
+use mathlib.Core.Path.{_≡_, refl, ap, sym, _∙_, subst}
+use mathlib.Core.List.{List, [], _∷_, _++_, append-assoc, append-nil}
+use Prim.Native.Nat.{ℕ, _+_, _-_, _*_, _≤_, _<_}
+use native.Mathlib.Nat.{le-antisymm, mul-le-mul-right, zero-mul}
+use native.Mathlib.Omega.{arith}
+use lib.ListN.{length, take, drop, length-append, length-drop, drop-of-length-le}
+use lib.Seq.{drop-drop, take-at, drop-at}
+use Rattle.rules.specs.declared.Answer.the-variants.{Done}
+use Rattle.rules.specs.Strip.{Conversion, records, written, outputAfter}
+use Rattle.strip.proofs.Cut.{cut, span, next, records-more, written-append, written-one, length-written}
+
+-- where the pass stands at the k-th of n records: what is written so far, and the rest of the output as it was
+pub record Filled (c : Conversion) (n : ℕ) (input output : List ℕ) (k : ℕ) (after : List ℕ) : Type 0 where
+  pub upto : k ≤ n
+  pub long : length after ≡ length output
+  pub is : after ≡ written (c .bytes) (records (c .from) k input) ++ drop (k * c .to) output
+
+-- a list after a stretch of it was lent, `&mut after[a..e]`, and came back as `part`
+abbrev pub pasted : List ℕ → ℕ → ℕ → List ℕ → List ℕ
+pasted after a e part = take a after ++ (part ++ drop (e - a) (drop a after))
+
+-- a stretch that is written right behind what is written so far
+behind : (W output after part : List ℕ) (a size : ℕ) → length W ≡ a → after ≡ W ++ drop a output → pasted after a (a + size) part ≡ (W ++ part) ++ drop (a + size) output
+behind W output after part a size lw e =
+    rw (e, take-at W (drop a output) a lw, drop-at W (drop a output) a lw, span a size, drop-drop, append-assoc)
+
+-- the same, of a stretch that is known
+pub onward : (a size : ℕ) (W output : List ℕ) {after part want : List ℕ} → length W ≡ a → after ≡ W ++ drop a output → part ≡ want
+    → pasted after a (a + size) part ≡ (W ++ want) ++ drop (a + size) output
+onward a size W output {after} {part} {want} lw e p =
+    behind W output after part a size lw e ∙ ap (λ (v : List ℕ). (W ++ v) ++ drop (a + size) output) p
+
+-- nothing is left behind what is written
+pub emptied : (w l : List ℕ) (n : ℕ) → length l ≤ n → w ++ drop n l ≡ w
+emptied w l n h = rw (drop-of-length-le l h) (append-nil w)
+
+module _ (c : Conversion) (long : (r : List ℕ) → length (c .bytes r) ≡ c .to) (n : ℕ) (input output : List ℕ) (room : n * c .to ≤ length output) where
+  pub filled-start : Filled c n input output 0 output
+  unfolding written records
+  filled-start = record { upto = omega arith; long = refl; is = rw zero-mul }
+
+  filled-long : (k : ℕ) → k ≤ n → length (written (c .bytes) (records (c .from) k input) ++ drop (k * c .to) output) ≡ length output
+  filled-long k h =
+      let le : k * c .to ≤ n * c .to = mul-le-mul-right (c .to) h in
+      rw (length-append, length-written (c .bytes) (c .to) long, length-drop) (omega arith)
+
+  written-more : (k : ℕ) → written (c .bytes) (records (c .from) (k + 1) input) ≡ written (c .bytes) (records (c .from) k input) ++ c .bytes (cut (c .from) k input)
+  written-more k = rw (records-more, written-append, written-one)
+
+  -- the k-th stretch, `&mut output[k * to..k * to + to]`, comes back with what is to be written for the k-th record
+  pub filled-more : (k : ℕ) (after part : List ℕ) → k < n → Filled c n input output k after → part ≡ c .bytes (cut (c .from) k input)
+      → Filled c n input output (k + 1) (pasted after (k * c .to) (k * c .to + c .to) part)
+  filled-more k after part h w e =
+      let W : List ℕ = written (c .bytes) (records (c .from) k input) in
+      let lw : length W ≡ k * c .to = length-written (c .bytes) (c .to) long (c .from) k input in
+      let r : pasted after (k * c .to) (k * c .to + c .to) part ≡ written (c .bytes) (records (c .from) (k + 1) input) ++ drop ((k + 1) * c .to) output =
+      behind W output after part (k * c .to) (c .to) lw (w .is) ∙ rw (written-more k, next k (c .to), e) in
+      record { upto = omega arith; long = ap length r ∙ filled-long (k + 1) (omega arith); is = r }
+
+  -- every record is written
+  pub filled-end : (k : ℕ) (after : List ℕ) → n ≤ k → Filled c n input output k after → after ≡ outputAfter c input output (Done n)
+  unfolding outputAfter
+  filled-end k after h w =
+      subst (λ (m : ℕ). after ≡ written (c .bytes) (records (c .from) m input) ++ drop (m * c .to) output) (le-antisymm (w .upto) h) (w .is)
