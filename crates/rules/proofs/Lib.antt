@@ -1,3 +1,4 @@
 pub mod Values
 pub mod Nearest
 pub mod Settings
+pub mod Closest

@@ -5,3 +5,4 @@ pub mod Curve
 pub mod Setting
 pub mod Exact
 pub mod Decoding
+pub mod Encoding
