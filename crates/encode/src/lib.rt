@@ -2,8 +2,9 @@
 ghost use mathlib.Core.Path.{_≡_};
 ghost use Prim.Native.Nat.{_^_, _<_};
 ghost use Rattle.rules.specs.declared.Check.the-variants.{Passed};
-ghost use Rattle.rules.specs.Setting.{Valid};
+ghost use Rattle.rules.specs.Setting.{topOf, Valid};
 ghost use Rattle.rules.specs.Encoding.{sceneCheck};
+ghost use Rattle.curve.specs.Decoded.{raw};
 ghost use Rattle.encode.specs.Encoded.{encoded, Ready};
 ghost use Rattle.encode.specs.Answer.{codeAfter, encodeAnswer};
 ghost use Rattle.encode.specs.Found.{Found};
@@ -43,7 +44,7 @@ pub fn check_scene(x: Scene) -> Check
 fn find(s: Setting, d: Decoder, t: &[u64; 128], y: u64) -> u64
     requires { ⌜ Ready s d (now t) ⌝ }
     requires { ⌜ y < 2 ^ 62 ⌝ }
-    ensures { λ r. ⌜ Found s y r ⌝ }
+    ensures { λ r. ⌜ Found (raw s) (topOf (s .width)) y r ⌝ }
 {
     let top = setting::top_code(s) as u64;
     let mut low: u64 = 0;
