@@ -12,7 +12,7 @@ use Rattle.whole.specs.Parts.{up, dn}
 use Rattle.whole.proofs.Reflect.{at, sub, dif, one-zero, sub-dif}
 use Rattle.rules.specs.Encoding.{distance, IsNearest}
 use Rattle.curve.specs.Decoded.{offset}
-use Rattle.encode.specs.Found.{Found}
+use Rattle.encode.specs.Search.{Found}
 
 -- ---- two numbers p and q with the offset, and half way between them
 

@@ -1,3 +1,3 @@
 pub mod Encoded
 pub mod Answer
-pub mod Found
+pub mod Search

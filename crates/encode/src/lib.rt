@@ -2,12 +2,12 @@
 ghost use mathlib.Core.Path.{_≡_};
 ghost use Prim.Native.Nat.{_^_, _<_};
 ghost use Rattle.rules.specs.declared.Check.the-variants.{Passed};
-ghost use Rattle.rules.specs.Setting.{topOf, Valid};
+ghost use Rattle.rules.specs.Setting.{Valid};
 ghost use Rattle.rules.specs.Encoding.{sceneCheck};
-ghost use Rattle.curve.specs.Decoded.{raw};
+ghost use Rattle.curve.specs.Decoded.{rawBy};
 ghost use Rattle.encode.specs.Encoded.{encoded, Ready};
 ghost use Rattle.encode.specs.Answer.{codeAfter, encodeAnswer};
-ghost use Rattle.encode.specs.Found.{Found};
+ghost use Rattle.encode.specs.Search.{Rising, Found};
 
 use curve::decoder::Decoder;
 use rules::Check;
@@ -41,12 +41,11 @@ pub fn check_scene(x: Scene) -> Check
 }
 
 // The code whose number is nearest to y, which has the offset: an interval of codes is halved until its ends are neighbours.
-fn find(s: Setting, d: Decoder, t: &[u64; 128], y: u64) -> u64
-    requires { ⌜ Ready s d (now t) ⌝ }
+fn find(d: Decoder, t: &[u64; 128], top: u64, y: u64) -> u64
+    requires { ⌜ Rising d (now t) top ⌝ }
     requires { ⌜ y < 2 ^ 62 ⌝ }
-    ensures { λ r. ⌜ Found (raw s) (topOf (s .width)) y r ⌝ }
+    ensures { λ r. ⌜ Found (rawBy d (now (t .entry))) top y r ⌝ }
 {
-    let top = setting::top_code(s) as u64;
     let mut low: u64 = 0;
     let mut high = top + 1;
     while low + 1 < high {
@@ -76,7 +75,8 @@ pub fn code_of(s: Setting, d: Decoder, t: &[u64; 128], x: Scene) -> Code
     if number < -OFFSET {
         return Code(0);
     }
-    Code(find(s, d, t, (number + OFFSET) as u64) as u16)
+    let top = setting::top_code(s) as u64;
+    Code(find(d, t, top, (number + OFFSET) as u64) as u16)
 }
 
 fn encode_valid(s: Setting, x: Scene) -> Encoding

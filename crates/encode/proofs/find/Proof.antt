@@ -1,91 +1,55 @@
+-- `find` meets its contract: the number stays between the ends of the interval, and ends beside one of them.
+-- Assumes nothing.
+use Prim.Native.Nat.{ℕ, _-_}
+use native.Mathlib.Omega.{arith}
+use borrow.Author.Needs.{needs}
+use Rattle.curve.specs.Decoded.{rawBy}
+use Rattle.curve.proofs.Program.{raw-small}
+use Rattle.encode.proofs.Search.{Between, begin, raise, lower, end-top, end-low, end-high}
 use Rattle.encode.proofs.find.Statement.{statement}
 use Rattle.encode.proofs.find.Tie as tie
 use Rattle.encode.proofs.find.Reads as reads
 use Rattle.encode.proofs.find.Lts as lts
 use Rattle.curve.proofs.decoder.Decoder.raw.Reads as raw-reads
-use Rattle.setting.proofs.top_code.Reads as top-code-reads
 
 abbrev Inv-loop : tie.InvT-loop
-Inv-loop d t y top low₀ high₀ low high = ?
+Inv-loop d t top y low₀ high₀ low high = Between (rawBy d t) top y low high
 
 abbrev μ-loop : tie.MeasureT-loop
-μ-loop d t y top low₀ high₀ low high = ?
+μ-loop d t top y low₀ high₀ low high = high - low
 
--- src/lib.rt:48:15
-top-code-requires : tie.Need-top-code-requires Inv-loop μ-loop
-top-code-requires c κs = ?
-
--- src/lib.rt:48:15
-cast-top : tie.Need-cast-top Inv-loop μ-loop
-cast-top c = ?
-
--- src/lib.rt:50:20
 add-high : tie.Need-add-high Inv-loop μ-loop
-add-high c = ?
+add-high c = omega (arith, c .pre .0 .small)
 
--- src/lib.rt:51:5
 loop-holds : tie.Need-loop-holds Inv-loop μ-loop
-loop-holds c = ?
+loop-holds c = begin _ (c .args .top) (c .args .y) (c .pre .0 .small)
 
--- src/lib.rt:51:11
-add-loop : tie.Need-add-loop Inv-loop μ-loop
-add-loop c = ?
-
--- src/lib.rt:52:29
-sub-middle : tie.Need-sub-middle Inv-loop μ-loop
-sub-middle c = ?
-
--- src/lib.rt:52:22
-add-middle : tie.Need-add-middle Inv-loop μ-loop
-add-middle c = ?
-
--- src/lib.rt:53:12
 raw-requires : tie.Need-raw-requires Inv-loop μ-loop
-raw-requires c κs = ?
+raw-requires c κs = c .before .before .pre .0 .fits _ (omega arith)
 
--- src/lib.rt:51:5
-loop-less : tie.Need-loop-less Inv-loop μ-loop
-loop-less c = ?
-
--- src/lib.rt:51:5
 loop-again : tie.Need-loop-again Inv-loop μ-loop
-loop-again c = ?
+loop-again c = raise (c .before .before .before .loop .inv) _ (omega arith) (rw (c .before .raw .ensures) at (c .if1 .taken))
 
--- src/lib.rt:51:5
-loop-less-2 : tie.Need-loop-less-2 Inv-loop μ-loop
-loop-less-2 c = ?
-
--- src/lib.rt:51:5
 loop-again-2 : tie.Need-loop-again-2 Inv-loop μ-loop
-loop-again-2 c = ?
+loop-again-2 c = lower (c .before .before .before .loop .inv) _ (omega arith) (omega arith) (rw (c .before .raw .ensures) at (c .if1 .left))
 
--- src/lib.rt:60:9
 returns : tie.Need-returns Inv-loop μ-loop
-returns c = ?
+returns c = end-top (c .before .before .loop .inv) (c .before .before .before .pre .0 .rises) (omega arith) (c .if2 .taken)
 
--- src/lib.rt:62:8
 raw-requires-2 : tie.Need-raw-requires-2 Inv-loop μ-loop
-raw-requires-2 c κs = ?
+raw-requires-2 c κs = c .before .before .before .pre .0 .fits _ (omega arith)
 
--- src/lib.rt:62:24
 raw-requires-3 : tie.Need-raw-requires-3 Inv-loop μ-loop
-raw-requires-3 c κs = ?
+raw-requires-3 c κs = c .before .before .before .before .pre .0 .fits _ (omega arith)
 
--- src/lib.rt:62:8
 add-if3 : tie.Need-add-if3 Inv-loop μ-loop
-add-if3 c = ?
+add-if3 c = omega (arith, c .before .raw2 .ensures, c .raw3 .ensures, raw-small (c .before .before .before .before .before .pre .0 .fits (c .before .before .before .before .loop .low) (omega arith)), raw-small (c .before .before .before .before .before .pre .0 .fits (c .before .before .before .before .loop .high) (omega arith)))
 
--- src/lib.rt:62:41
-mul-if3 : tie.Need-mul-if3 Inv-loop μ-loop
-mul-if3 c = ?
-
--- src/lib.rt:63:9
 returns-2 : tie.Need-returns-2 Inv-loop μ-loop
-returns-2 c = ?
+returns-2 c = end-high (c .before .before .before .before .before .loop .inv) (c .before .before .before .before .before .before .pre .0 .rises) (omega arith) (omega arith) (rw (c .before .before .raw2 .ensures, c .before .raw3 .ensures) at (c .if3 .taken))
 
--- src/lib.rt:43:1
 returns-3 : tie.Need-returns-3 Inv-loop μ-loop
-returns-3 c = ?
+returns-3 c = end-low (c .before .before .before .before .before .loop .inv) (c .before .before .before .before .before .before .pre .0 .rises) (omega arith) (omega arith) (rw (c .before .before .raw2 .ensures, c .before .raw3 .ensures) at (c .if3 .left))
 
 pub find-spec : {M : Type 1} → statement M
 find-spec =
@@ -93,22 +57,20 @@ find-spec =
     (tie.spec
     Inv-loop
     μ-loop
-    top-code-requires
-    cast-top
     add-high
     loop-holds
-    add-loop
-    sub-middle
-    add-middle
+    (λ c. search needs)
+    (λ c. search needs)
+    (λ c. search needs)
     raw-requires
-    loop-less
+    (λ c. search needs)
     loop-again
-    loop-less-2
+    (λ c. search needs)
     loop-again-2
     returns
     raw-requires-2
     raw-requires-3
     add-if3
-    mul-if3
+    (λ c. search needs)
     returns-2
     returns-3)
