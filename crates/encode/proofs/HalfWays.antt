@@ -16,7 +16,7 @@ use Rattle.encode.specs.Search.{Found}
 
 -- ---- two numbers p and q with the offset, and half way between them
 
-abs-is : (z : ℤ) → natAbs z ≡ up z + dn z
+pub abs-is : (z : ℤ) → natAbs z ≡ up z + dn z
 abs-is (pos n) = omega arith
 abs-is (negsuc n) = omega arith
 

@@ -1,2 +1,4 @@
 mod Search
 mod HalfWays
+mod Codes
+mod Shifted
