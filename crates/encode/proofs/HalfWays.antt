@@ -91,6 +91,15 @@ module _ (u : ℕ → ℕ) (top : ℕ) (rises : (m n : ℕ) → m < n → n ≤ 
         below = λ h. before-half x (u n) (u (n + 1)) (rises n (n + 1) (omega arith) (omega arith)) (i .nearest (n + 1) (omega arith));
       }
 
+-- the number of a code itself
+pub own-within : (u : ℕ → ℕ) (top : ℕ) → ((m n : ℕ) → m < n → n ≤ top → u m < u n) → (n : ℕ) → n ≤ top → Within u top (subℕ (u n) offset) n
+own-within u top rises n h =
+    record {
+      in-range = h;
+      above = λ m e. omega (arith, sub-dif (u n) offset, rises m n (omega arith) h);
+      below = λ g. omega (arith, sub-dif (u n) offset, rises n (n + 1) (omega arith) (omega arith));
+    }
+
 -- ---- what a search finds: y is x with the offset, or x is so low that no number y is
 pub found-within : (u : ℕ → ℕ) (top : ℕ) (x : ℤ) (y n : ℕ) → up x + offset ≡ y + dn x → Found u top y n → Within u top x n
 found-within u top x y n e f =

@@ -2,3 +2,4 @@ mod Search
 mod HalfWays
 mod Codes
 mod Shifted
+pub mod Theorems
