@@ -6,5 +6,5 @@ pub mod Toe
 pub mod Right
 pub mod Settings
 pub mod Theorems
-mod Program
+pub mod Program
 pub mod Fit

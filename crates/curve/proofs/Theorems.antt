@@ -25,22 +25,23 @@ decoding s v n h = decodes (curveOf s) 0 (topOf (s .width)) (topOf (s .width)) (
 raw-step : (s : Setting) → Valid s → (n : ℕ) → n < topOf (s .width) → raw s n < raw s (n + 1)
 raw-step s v n h = rises (curveOf s) 0 (topOf (s .width)) (topOf (s .width)) (tableOf s) (sourceOf s) (passed s v) n h
 
-raw-rises : (s : Setting) → Valid s → (m d : ℕ) → m + suc d ≤ topOf (s .width) → raw s m < raw s (m + suc d)
-raw-rises s v m zero h = subst (λ (x : ℕ). raw s m < raw s x) (omega arith) (raw-step s v m (omega arith))
-raw-rises s v m (suc d) h =
-    lt-trans (raw-rises s v m d (omega arith)) (subst (λ (x : ℕ). raw s (m + suc d) < raw s x) (omega arith) (raw-step s v (m + suc d) (omega arith)))
+raw-later : (s : Setting) → Valid s → (m d : ℕ) → m + suc d ≤ topOf (s .width) → raw s m < raw s (m + suc d)
+raw-later s v m zero h = subst (λ (x : ℕ). raw s m < raw s x) (omega arith) (raw-step s v m (omega arith))
+raw-later s v m (suc d) h =
+    lt-trans (raw-later s v m d (omega arith)) (subst (λ (x : ℕ). raw s (m + suc d) < raw s x) (omega arith) (raw-step s v (m + suc d) (omega arith)))
 
-less-offset : (a b o : ℕ) → a < b → subℕ a o <ℤ subℕ b o
-less-offset a b o h = ltZ-of (at (subℕ a o)) (at (subℕ b o)) (omega (arith, sub-dif a o, sub-dif b o))
-
--- "For each setting the numbers rise strictly with the code."
-pub decoded-rises : (s : Setting) → Valid s → (m n : ℕ) → m < n → n ≤ topOf (s .width) → decoded s m <ℤ decoded s n
-decoded-rises s v m n h g =
-    less-offset (raw s m) (raw s n) offset
-    (subst (λ (x : ℕ). raw s m < raw s x) (apart m n h) (raw-rises s v m (n - suc m) (bound m n (topOf (s .width)) h g)))
+pub raw-rises : (s : Setting) → Valid s → (m n : ℕ) → m < n → n ≤ topOf (s .width) → raw s m < raw s n
+raw-rises s v m n h g = subst (λ (x : ℕ). raw s m < raw s x) (apart m n h) (raw-later s v m (n - suc m) (bound m n (topOf (s .width)) h g))
   where
     apart : (m n : ℕ) → m < n → m + suc (n - suc m) ≡ n
     apart m n h = omega arith
 
     bound : (m n t : ℕ) → m < n → n ≤ t → m + suc (n - suc m) ≤ t
     bound m n t h g = omega arith
+
+less-offset : (a b o : ℕ) → a < b → subℕ a o <ℤ subℕ b o
+less-offset a b o h = ltZ-of (at (subℕ a o)) (at (subℕ b o)) (omega (arith, sub-dif a o, sub-dif b o))
+
+-- "For each setting the numbers rise strictly with the code."
+pub decoded-rises : (s : Setting) → Valid s → (m n : ℕ) → m < n → n ≤ topOf (s .width) → decoded s m <ℤ decoded s n
+decoded-rises s v m n h g = less-offset (raw s m) (raw s n) offset (raw-rises s v m n h g)

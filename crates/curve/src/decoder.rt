@@ -113,7 +113,7 @@ impl Decoder {
     }
 
     // The number of a code, with the offset.
-    fn raw(self, t: &[u64; 128], n: u64) -> u64
+    pub fn raw(self, t: &[u64; 128], n: u64) -> u64
         requires { ⌜ Fits self (now t) n ⌝ }
         ensures { λ r. ⌜ r ≡ rawBy self (now (t .entry)) n ⌝ }
     {

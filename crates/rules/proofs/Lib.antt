@@ -2,3 +2,4 @@ pub mod Values
 pub mod Nearest
 pub mod Settings
 pub mod Records
+pub mod Closest

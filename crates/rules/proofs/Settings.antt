@@ -19,11 +19,11 @@ abbrev pub forAll : List ℕ → (ℕ → Bool) → Bool
 forAll [] p = true
 forAll (n ∷ ns) p = choose (p n) (forAll ns p) false
 
-first : (x y : Bool) → T (choose x y false) → T x
+pub first : (x y : Bool) → T (choose x y false) → T x
 first true y h = tt
 first false y h = h
 
-others : (x y : Bool) → T (choose x y false) → T y
+pub others : (x y : Bool) → T (choose x y false) → T y
 others true y h = h
 others false y h = absurd h
 
@@ -40,7 +40,7 @@ IsRefused : Check → Type 0
 IsRefused Passed = ⊥
 IsRefused (Refused r) = Unit {0}
 
-passed-only : (x : Bool) (r : Refusal) → refuseUnless x r ≡ Passed → T x
+pub passed-only : (x : Bool) (r : Refusal) → refuseUnless x r ≡ Passed → T x
 unfolding IsRefused
 passed-only true r e = tt
 passed-only false r e = subst IsRefused e tt

@@ -2,7 +2,7 @@
 -- Assumes nothing.
 use mathlib.Core.Bool.{Bool, true, false}
 use mathlib.Core.Path.{_≡_}
-use Prim.Native.Nat.{ℕ, _^_, _<_}
+use Prim.Native.Nat.{ℕ, _^_, _≤_, _<_}
 use lib.IntN.{ℤ}
 use Rattle.rules.specs.Fraction.{Fraction, ratio, whole, integer, _+ℚ_, _-ℚ_, _*ℚ_, nearest}
 use Rattle.rules.specs.Curve.{inToe, toeValue}
@@ -21,6 +21,12 @@ Less m n = m < n
 
 abbrev pub Greater : ℕ → ℕ → Type 0
 Greater m n = n < m
+
+abbrev pub AtMost : ℕ → ℕ → Type 0
+AtMost m n = m ≤ n
+
+abbrev pub AtLeast : ℕ → ℕ → Type 0
+AtLeast m n = n ≤ m
 
 -- y is a decoded number of the code n, which is in the toe or not
 pub data DecodesPart (k : Scale) (n : ℕ) (y : ℤ) : Bool → Type 0 where

@@ -7,3 +7,4 @@ pub mod Exact
 pub mod Decoding
 pub mod Record
 pub mod Strip
+pub mod Encoding

@@ -1,0 +1,109 @@
+-- The nearest code is the one whose half ways, to the code before it and to the code after it, are on the two sides of the number.
+-- Assumes nothing.
+use mathlib.Core.Bool.{Bool, true, false}
+use mathlib.Core.Path.{_≡_, refl, ap}
+use Prim.Native.Nat.{ℕ, _+_, _-_, _*_, _≤_, _<_}
+use native.Mathlib.Nat.{le-of-eq, le-of-lt, le-of-suc-le-suc, lt-of-not-le, not-le-of-lt}
+use native.Mathlib.Omega.{arith}
+use borrow.Author.Tests.{ltb-true, ltb-false}
+use lib.Dec.{ltb}
+use lib.IntN.{ℤ, pos, negsuc, natAbs, subℕ, _-ℤ_}
+use Rattle.whole.specs.Parts.{up, dn}
+use Rattle.whole.proofs.Reflect.{at, sub, dif, one-zero, sub-dif}
+use Rattle.rules.specs.Encoding.{distance, IsNearest}
+use Rattle.curve.specs.Decoded.{offset}
+use Rattle.encode.specs.Search.{Found}
+
+-- ---- two numbers p and q with the offset, and half way between them
+
+pub abs-is : (z : ℤ) → natAbs z ≡ up z + dn z
+abs-is (pos n) = omega arith
+abs-is (negsuc n) = omega arith
+
+-- of the lower of two numbers that x is not past half way to the higher, and of the higher where x is past it
+closer : (x : ℤ) (p q : ℕ) → p < q → 2 * (up x + offset) ≤ p + q + 2 * dn x → natAbs (x -ℤ subℕ p offset) ≤ natAbs (x -ℤ subℕ q offset)
+closer x p q h i =
+    omega (arith, abs-is (x -ℤ subℕ p offset), abs-is (x -ℤ subℕ q offset), one-zero (x -ℤ subℕ p offset), one-zero (x -ℤ subℕ q offset), dif (sub (at x) (at (subℕ p offset))), dif (sub (at x) (at (subℕ q offset))), sub-dif p offset, sub-dif q offset)
+
+nearer : (x : ℤ) (p q : ℕ) → p < q → p + q + 2 * dn x < 2 * (up x + offset) → natAbs (x -ℤ subℕ q offset) < natAbs (x -ℤ subℕ p offset)
+nearer x p q h i =
+    omega (arith, abs-is (x -ℤ subℕ p offset), abs-is (x -ℤ subℕ q offset), one-zero (x -ℤ subℕ p offset), one-zero (x -ℤ subℕ q offset), dif (sub (at x) (at (subℕ p offset))), dif (sub (at x) (at (subℕ q offset))), sub-dif p offset, sub-dif q offset)
+
+-- and from the distances to the half way
+before-half : (x : ℤ) (p q : ℕ) → p < q → natAbs (x -ℤ subℕ p offset) ≤ natAbs (x -ℤ subℕ q offset) → 2 * (up x + offset) ≤ p + q + 2 * dn x
+before-half x p q h i = le-of-suc-le-suc (lt-of-not-le (λ g. not-le-of-lt (nearer x p q h g) i))
+
+past-half : (x : ℤ) (p q : ℕ) → p < q → natAbs (x -ℤ subℕ q offset) < natAbs (x -ℤ subℕ p offset) → p + q + 2 * dn x < 2 * (up x + offset)
+past-half x p q h i = lt-of-not-le (λ g. not-le-of-lt i (closer x p q h g))
+
+-- ---- codes
+
+-- x, with the offset, is above half way from the code before n to n, and at most half way from n to the code after it
+pub record Within (u : ℕ → ℕ) (top : ℕ) (x : ℤ) (n : ℕ) : Type 0 where
+  pub in-range : n ≤ top
+  pub above : (m : ℕ) → m + 1 ≡ n → u m + u n + 2 * dn x < 2 * (up x + offset)
+  pub below : n < top → 2 * (up x + offset) ≤ u n + u (n + 1) + 2 * dn x
+
+module _ (u : ℕ → ℕ) (top : ℕ) (rises : (m n : ℕ) → m < n → n ≤ top → u m < u n) (x : ℤ) where
+  abbrev number : ℕ → ℤ
+  number n = subℕ (u n) offset
+
+  not-less : (m n : ℕ) → m ≤ n → n ≤ top → u m ≤ u n
+  not-less m n h g = go (ltb m n) refl
+    where
+      equal : n ≤ m → m ≡ n
+      equal f = omega arith
+
+      go : (b : Bool) → ltb m n ≡ b → u m ≤ u n
+      go true e = le-of-lt (rises m n (ltb-true m n e) g)
+      go false e = le-of-eq (ap u (equal (ltb-false m n e)))
+
+  module _ (n : ℕ) (i : Within u top x n) where
+    than-lower : (m : ℕ) → m < n → distance number x n < distance number x m
+    than-lower m h =
+        nearer x (u m) (u n) (rises m n h (i .in-range))
+        (omega (arith, not-less m (n - 1) (omega arith) (omega (arith, i .in-range)), i .above (n - 1) (omega arith)))
+
+    than-higher : (m : ℕ) → n < m → m ≤ top → distance number x n ≤ distance number x m
+    than-higher m h g =
+        closer x (u n) (u m) (rises n m h g)
+        (omega (arith, not-less (n + 1) m (omega arith) g, i .below (omega arith)))
+
+    than-any : (m : ℕ) → m ≤ top → distance number x n ≤ distance number x m
+    than-any m g = go (ltb m n) refl (ltb n m) refl
+      where
+        equal : m ≤ n → n ≤ m → n ≡ m
+        equal f g = omega arith
+
+        go : (b : Bool) → ltb m n ≡ b → (c : Bool) → ltb n m ≡ c → distance number x n ≤ distance number x m
+        go true e c f = le-of-lt (than-lower m (ltb-true m n e))
+        go false e true f = than-higher m (ltb-true n m f) g
+        go false e false f = le-of-eq (ap (λ (k : ℕ). distance number x k) (equal (ltb-false n m f) (ltb-false m n e)))
+
+    pub within-nearest : IsNearest number top x n
+    within-nearest = record { in-range = i .in-range; nearest = than-any; lowest = than-lower }
+
+  pub nearest-within : (n : ℕ) → IsNearest number top x n → Within u top x n
+  nearest-within n i =
+      record {
+        in-range = i .in-range;
+        above = λ m e. past-half x (u m) (u n) (rises m n (omega arith) (i .in-range)) (i .lowest m (omega arith));
+        below = λ h. before-half x (u n) (u (n + 1)) (rises n (n + 1) (omega arith) (omega arith)) (i .nearest (n + 1) (omega arith));
+      }
+
+-- the number of a code itself
+pub own-within : (u : ℕ → ℕ) (top : ℕ) → ((m n : ℕ) → m < n → n ≤ top → u m < u n) → (n : ℕ) → n ≤ top → Within u top (subℕ (u n) offset) n
+own-within u top rises n h =
+    record {
+      in-range = h;
+      above = λ m e. omega (arith, sub-dif (u n) offset, rises m n (omega arith) h);
+      below = λ g. omega (arith, sub-dif (u n) offset, rises n (n + 1) (omega arith) (omega arith));
+    }
+
+-- ---- what a search finds: y is x with the offset, or x is so low that no number y is
+pub found-within : (u : ℕ → ℕ) (top : ℕ) (x : ℤ) (y n : ℕ) → up x + offset ≡ y + dn x → Found u top y n → Within u top x n
+found-within u top x y n e f =
+    record { in-range = f .in-range; above = λ m g. omega (arith, f .above m g); below = λ h. omega (arith, f .below h) }
+
+pub lowest-within : (u : ℕ → ℕ) (top : ℕ) (x : ℤ) → up x + offset ≤ dn x → Within u top x 0
+lowest-within u top x h = record { in-range = omega arith; above = λ m e. absurd (omega arith); below = λ g. omega arith }

@@ -1,0 +1,5 @@
+mod Search
+mod HalfWays
+mod Codes
+mod Shifted
+pub mod Theorems

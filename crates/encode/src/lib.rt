@@ -1,0 +1,104 @@
+// Encoding: the code of a scene number.
+ghost use mathlib.Core.Path.{_≡_};
+ghost use Prim.Native.Nat.{_^_, _<_};
+ghost use Rattle.rules.specs.declared.Check.the-variants.{Passed};
+ghost use Rattle.rules.specs.Setting.{Valid};
+ghost use Rattle.rules.specs.Encoding.{sceneCheck};
+ghost use Rattle.curve.specs.Decoded.{rawBy};
+ghost use Rattle.encode.specs.Encoded.{encoded, Ready};
+ghost use Rattle.encode.specs.Answer.{codeAfter, encodeAnswer};
+ghost use Rattle.encode.specs.Search.{Rising, Found};
+
+use curve::decoder::Decoder;
+use rules::Check;
+use rules::Code;
+use rules::Refusal;
+use rules::Scene;
+use rules::Setting;
+
+// 2^40: the scene numbers to encode go from minus this to this.
+const LIMIT: i64 = 1099511627776;
+
+// A number with its offset, 2^20, is not below 0 if it is a code's.
+const OFFSET: i64 = 1048576;
+
+// What encoding one scene number answers.
+pub enum Encoding {
+    Code(Code),
+    Refused(Refusal),
+}
+
+// Refusal 7.
+pub fn check_scene(x: Scene) -> Check
+    ensures { λ r. ⌜ r ≡ sceneCheck (x .0) ⌝ }
+{
+    let number = x.0;
+    if -LIMIT <= number && number <= LIMIT {
+        Check::Passed
+    } else {
+        Check::Refused(Refusal::SceneOutOfRange)
+    }
+}
+
+// The code whose number is nearest to y, which has the offset: an interval of codes is halved until its ends are neighbours.
+fn find(d: Decoder, t: &[u64; 128], top: u64, y: u64) -> u64
+    requires { ⌜ Rising d (now t) top ⌝ }
+    requires { ⌜ y < 2 ^ 62 ⌝ }
+    ensures { λ r. ⌜ Found (rawBy d (now (t .entry))) top y r ⌝ }
+{
+    let mut low: u64 = 0;
+    let mut high = top + 1;
+    while low + 1 < high {
+        let middle = low + (high - low) / 2;
+        if d.raw(t, middle) < y {
+            low = middle;
+        } else {
+            high = middle;
+        }
+    }
+    if top < high {
+        return low;
+    }
+    if d.raw(t, low) + d.raw(t, high) < 2 * y {
+        return high;
+    }
+    low
+}
+
+// The code of a scene number.
+pub fn code_of(s: Setting, d: Decoder, t: &[u64; 128], x: Scene) -> Code
+    requires { ⌜ Ready s d (now t) ⌝ }
+    requires { ⌜ sceneCheck (x .0) ≡ Passed ⌝ }
+    ensures { λ r. ⌜ r .0 ≡ encoded s (x .0) ⌝ }
+{
+    let number = x.0;
+    if number < -OFFSET {
+        return Code(0);
+    }
+    let top = setting::top_code(s) as u64;
+    Code(find(d, t, top, (number + OFFSET) as u64) as u16)
+}
+
+fn encode_valid(s: Setting, x: Scene) -> Encoding
+    requires { ⌜ Valid s ⌝ }
+    ensures { λ r. ⌜ r ≡ codeAfter (sceneCheck (x .0)) (record { 0 = encoded s (x .0) }) ⌝ }
+{
+    match check_scene(x) {
+        Check::Refused(r) => Encoding::Refused(r),
+        Check::Passed => {
+            let d = Decoder::new(s);
+            let t = table::table(s);
+            Encoding::Code(code_of(s, d, &t, x))
+        }
+    }
+}
+
+// The code of a scene number, or the refusal of the first check that fails: 3, 4, 5, then 7.
+pub fn encode(s: Setting, x: Scene) -> Encoding
+    ensures { λ r. ⌜ r ≡ encodeAnswer s (x .0) ⌝ }
+{
+    match setting::check_setting(s) {
+        Check::Refused(r) => Encoding::Refused(r),
+        Check::Passed => encode_valid(s, x),
+    }
+}
