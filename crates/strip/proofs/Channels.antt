@@ -10,10 +10,10 @@ use Rattle.rules.specs.Record.{channelAt}
 use Rattle.rules.specs.Refusal.{then}
 use Rattle.strip.specs.Conversions.{channelChecks}
 
-then-refused : (x next : Check) (why : Refusal) → x ≡ Refused why → x ≡ then x next
+pub then-refused : (x next : Check) (why : Refusal) → x ≡ Refused why → x ≡ then x next
 then-refused x next why e = subst (λ (y : Check). y ≡ then y next) (sym e) refl
 
-then-passed : (x next : Check) → x ≡ Passed → next ≡ then x next
+pub then-passed : (x next : Check) → x ≡ Passed → next ≡ then x next
 then-passed x next e = subst (λ (y : Check). next ≡ then y next) (sym e) refl
 
 module _ (a : ℕ) (check : ℕ → Check) (r : List ℕ) {red : Check} (e : red ≡ check (channelAt a r 0)) where
@@ -36,7 +36,7 @@ module _ (a : ℕ) (check : ℕ → Check) (r : List ℕ) {red : Check} (e : red
       ∙ then-passed (check (channelAt a r 0)) (then (check (channelAt a r 1)) (check (channelAt a r 2))) (sym e ∙ p)
 
 -- where all pass, each passes
-both : (x y : Check) → then x y ≡ Passed → (x ≡ Passed) × (y ≡ Passed)
+pub both : (x y : Check) → then x y ≡ Passed → (x ≡ Passed) × (y ≡ Passed)
 both Passed y e = (refl, e)
 both (Refused why) y e = absurd (clash e)
   where

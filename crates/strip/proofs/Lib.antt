@@ -1,6 +1,8 @@
 pub mod Cut
-pub mod Scan
-pub mod Fill
+pub mod FirstPass
+pub mod SecondPass
 pub mod Contract
 pub mod Channels
 pub mod Parts
+mod Settings
+pub mod EveryKind

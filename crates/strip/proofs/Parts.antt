@@ -9,7 +9,7 @@ use lib.ListN.{length, length-append}
 use Rattle.rules.specs.declared.Setting.{Setting}
 use Rattle.rules.specs.Record.{digits, bytesOf, Channels, recordOf}
 use Rattle.rules.proofs.Records.{length-digits, length-setting, record-parts}
-use Rattle.strip.proofs.Fill.{pasted, onward, emptied}
+use Rattle.strip.proofs.SecondPass.{pasted, onward, emptied}
 
 module _ (n : ℕ) (s : Setting) (c : Channels) (out : List ℕ) where
   abbrev setting : List ℕ

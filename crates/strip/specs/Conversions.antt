@@ -6,9 +6,13 @@ use Rattle.rules.specs.declared.Check.{Check}
 use Rattle.rules.specs.declared.Setting.{Setting}
 use Rattle.rules.specs.Refusal.{then}
 use Rattle.rules.specs.Setting.{codeCheck}
-use Rattle.rules.specs.Record.{toBits, sizeOf, codeBytes, numberBytes, settingOf, channelAt, recordOf}
+use Rattle.rules.specs.Encoding.{sceneCheck}
+use Rattle.rules.specs.Record.{toBits, ofBits, sizeOf, codeBytes, numberBytes, settingOf, channelAt, recordOf}
 use Rattle.rules.specs.Strip.{Conversion}
 use Rattle.curve.specs.Decoded.{decoded}
+use Rattle.encode.specs.Encoded.{encoded}
+use Rattle.strip.specs.declared.Kind.{Kind}
+use Rattle.strip.specs.declared.Kind.the-variants.{PixelToScene, SceneToPixel}
 
 -- "red, green and blue (each channel's checks before the next channel)", of channels of a bytes
 unfoldable pub channelChecks : (a : ℕ) → (ℕ → Check) → List ℕ → Check
@@ -34,3 +38,18 @@ sceneBits s n = toBits numberBytes (decoded s n)
 
 abbrev pub pixelToScene : Conversion
 pixelToScene = channelwise codeBytes numberBytes codeCheck sceneBits
+
+-- "scene to pixel (encoding)"
+abbrev pub numberCheck : Setting → ℕ → Check
+numberCheck s u = sceneCheck (ofBits numberBytes u)
+
+abbrev pub codeBits : Setting → ℕ → ℕ
+codeBits s u = encoded s (ofBits numberBytes u)
+
+abbrev pub sceneToPixel : Conversion
+sceneToPixel = channelwise numberBytes codeBytes numberCheck codeBits
+
+-- the conversion that a value names
+abbrev pub conversionOf : Kind → Conversion
+conversionOf PixelToScene = pixelToScene
+conversionOf SceneToPixel = sceneToPixel

@@ -8,9 +8,10 @@ ghost use Rattle.rules.specs.Setting.{codeCheck, Valid};
 ghost use Rattle.curve.specs.Decoded.{decoded};
 ghost use Rattle.curve.specs.Ready.{Ready};
 ghost use Rattle.strip.specs.Conversions.{channelChecks, eachChannel, sceneBits};
-
 use curve::decoder::Decoder;
-use rules::{Check, Code, Setting};
+use rules::Check;
+use rules::Code;
+use rules::Setting;
 
 // The check of the code at a place of the record.
 fn check_at(s: Setting, r: &[u8], at: usize) -> Check

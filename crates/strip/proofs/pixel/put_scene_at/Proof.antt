@@ -13,7 +13,7 @@ scene-requires : tie.Need-scene-requires
 scene-requires c κs = rw (c .word-at .ensures) (ready-fits (c .before .before .before .pre .0) _ (c .before .before .before .pre .1 .1 .0))
 
 returns : tie.Need-returns
-returns c = c .before .before .put-long .ensures ∙ ap (λ (z : ℤ). digits 8 (toBits 8 z)) 
+returns c = c .before .before .put-long .ensures ∙ ap (λ (z : ℤ). digits 8 (toBits 8 z))
     (read-is (rw (c .before .before .before .before .before .before .word-at .ensures) at (c .before .before .before .before .before .scene .ensures) ∙ ready-number (c .before .before .before .before .before .before .before .before .before .pre .0) _) (decoded-fits _ (c .before .before .before .before .before .before .before .before .before .pre .0 .valid) _ (c .before .before .before .before .before .before .before .before .before .pre .1 .1 .0)))
 
 pub put-scene-at-spec : {M : Type 1} → statement M
