@@ -6,3 +6,4 @@ pub mod Channels
 pub mod Parts
 mod Settings
 pub mod EveryKind
+pub mod Join

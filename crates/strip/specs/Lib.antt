@@ -1,2 +1,3 @@
 pub mod Conversions
 pub mod Same
+pub mod Join
