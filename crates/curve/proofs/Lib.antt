@@ -8,3 +8,4 @@ pub mod Settings
 pub mod Theorems
 pub mod Program
 pub mod Fit
+pub mod Limit

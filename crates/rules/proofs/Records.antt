@@ -75,14 +75,27 @@ fields-bytesOf (n ∷ ns) [] rest f = absurd f
 fields-bytesOf (n ∷ ns) (v ∷ vs) rest f =
     rw (append-assoc, take-at (digits n v) (bytesOf ns vs ++ rest) n (length-digits n v), drop-at (digits n v) (bytesOf ns vs ++ rest) n (length-digits n v), value-digits n v (f .0), fields-bytesOf ns vs rest (f .1))
 
-take-bytes : (n : ℕ) (s : List ℕ) → IsBytes s → IsBytes (take n s)
+pub take-bytes : (n : ℕ) (s : List ℕ) → IsBytes s → IsBytes (take n s)
 take-bytes zero s h i = omega arith
 take-bytes (suc n) [] h i = omega arith
 take-bytes (suc n) (x ∷ xs) h zero = h 0
 take-bytes (suc n) (x ∷ xs) h (suc i) = take-bytes n xs (λ j. h (suc j)) i
 
-drop-bytes : (n : ℕ) (s : List ℕ) → IsBytes s → IsBytes (drop n s)
+pub drop-bytes : (n : ℕ) (s : List ℕ) → IsBytes s → IsBytes (drop n s)
 drop-bytes n s h i = rw getD-drop (h (n + i))
+
+-- the first n bytes write a number of n bytes
+pub value-small : (n : ℕ) (s : List ℕ) → IsBytes s → value (take n s) < 256 ^ n
+unfolding value
+value-small zero s h = rw pow-zero (lit< tt)
+value-small (suc n) [] h = rw pow-suc (positive (256 ^ n) (value-small n [] h))
+  where
+    positive : (p : ℕ) {x : ℕ} → x < p → 0 < p * 256
+    positive p g = omega arith
+value-small (suc n) (x ∷ xs) h = rw pow-suc (more (256 ^ n) (h 0) (value-small n xs (λ i. h (suc i))))
+  where
+    more : (p : ℕ) {x y : ℕ} → x < 256 → y < p → x + 256 * y < p * 256
+    more p g f = omega arith
 
 pub bytesOf-fields : (sizes r : List ℕ) → IsBytes r → length r ≡ total sizes → bytesOf sizes (fields sizes r) ≡ r
 unfolding fields bytesOf

@@ -59,7 +59,7 @@ pub never : {A : Type 0} {m i : ℕ} {why : Refusal} → Done m ≡ Refused why 
 never e = absurd (let z : _≡_ {A = ℕ} 0 1 = cc in omega arith)
 
 -- ---- a pass that refuses nothing: it has counted every record, and each of them passes
-go-on : (f : List ℕ → Check) (r : List ℕ) (k m : ℕ) (next : Answer) → Done m ≡ orNext (f r) k next → (f r ≡ check.Check.Passed) × (Done m ≡ next)
+pub go-on : (f : List ℕ → Check) (r : List ℕ) (k m : ℕ) (next : Answer) → Done m ≡ orNext (f r) k next → (f r ≡ check.Check.Passed) × (Done m ≡ next)
 go-on f r k m next e = go (f r) refl e
   where
     go : (x : Check) → f r ≡ x → Done m ≡ orNext x k next → (f r ≡ check.Check.Passed) × (Done m ≡ next)

@@ -7,3 +7,6 @@ pub mod Parts
 mod Settings
 pub mod EveryKind
 pub mod Join
+pub mod Back
+pub mod Channelwise
+pub mod Theorems

@@ -1,0 +1,174 @@
+-- Two conversions of which the second takes back what the first does, record by record: then the second takes back what the first does
+-- to a strip; and two strips that the first writes alike are one.
+-- Assumes nothing.
+use mathlib.Core.Path.{_≡_, refl, ap, sym, _∙_}
+use mathlib.Core.Bool.{Bool, true, false}
+use mathlib.Core.Logic.{_↔_}
+use mathlib.Core.List.{List, [], _∷_, _++_, append-assoc, append-nil, map}
+use Prim.Native.Nat.{ℕ, zero, suc, _+_, _-_, _*_, _/_, _%_, _≤_, _<_}
+use native.Mathlib.Nat.{zero-mul, suc-mul, add-zero, add-suc, suc-add, div-add-mod'}
+use native.Mathlib.Omega.{arith}
+use borrow.Author.Tests.{eqb-true, leb-true}
+use lib.Dec.{leb, eqb}
+use lib.ListN.{length, take, drop, length-drop}
+use lib.Seq.{take-at, drop-at, take-add, take-length, drop-nil, length-take-le}
+use Rattle.rules.specs.declared.Answer.the-variants.{Done, Refused}
+use Rattle.rules.specs.declared.Check.{Check}
+use Rattle.rules.specs.declared.Check as check
+use Rattle.rules.specs.declared.Refusal.the-variants.{PartialRecord, ShortOutput}
+use Rattle.rules.specs.Choice.{choose}
+use Rattle.rules.specs.Record.{IsBytes}
+use Rattle.rules.specs.Strip.{Conversion, recordCheck, records, written, scan, scanOf, answerOf, outputAfter}
+use Rattle.rules.proofs.Records.{take-bytes, drop-bytes}
+use Rattle.strip.proofs.Cut.{length-written}
+use Rattle.strip.proofs.FirstPass.{go-on, never, counted}
+use Rattle.strip.proofs.Join.{whole-answer}
+
+-- a record that is whole and not refused
+pub record Good (c : Conversion) (r : List ℕ) : Type 0 where
+  pub long : length r ≡ c .from
+  pub bytes : IsBytes r
+  pub passes : recordCheck c r ≡ check.Check.Passed
+
+-- each of the records is one
+abbrev pub AllGood : Conversion → List (List ℕ) → Type 0
+AllGood c [] = Unit {0}
+AllGood c (r ∷ rs) = Good c r × AllGood c rs
+
+-- the records of a strip that is not refused are good
+good-records : (c : Conversion) (n : ℕ) (s : List ℕ) (k m : ℕ) → n * c .from ≤ length s → IsBytes s → Done m ≡ scan (recordCheck c) k (records (c .from) n s)
+    → AllGood c (records (c .from) n s)
+unfolding scan records
+good-records c zero s k m room h e = tt
+good-records c (suc n) s k m room h e =
+    let le : n * c .from + c .from ≤ length s = rw suc-mul at room in
+    let on = go-on (recordCheck c) (take (c .from) s) k m (scan (recordCheck c) (suc k) (records (c .from) n (drop (c .from) s))) e in (
+      record { long = length-take-le (c .from) s (omega arith); bytes = take-bytes (c .from) s h; passes = on .0 },
+      good-records c n (drop (c .from) s) (suc k) m (rw length-drop (omega arith)) (drop-bytes (c .from) s h) (on .1),
+    )
+
+-- what is written is cut into records again
+records-written : (f : List ℕ → List ℕ) (to : ℕ) (long : (r : List ℕ) → length (f r) ≡ to) (size n : ℕ) (s rest : List ℕ)
+    → records to n (written f (records size n s) ++ rest) ≡ map f (records size n s)
+unfolding records written
+records-written f to long size zero s rest = refl
+records-written f to long size (suc n) s rest =
+    rw (append-assoc, take-at (f (take size s)) _ to (long (take size s)), drop-at (f (take size s)) _ to (long (take size s)), records-written f to long size n (drop size s) rest)
+
+-- the records of a strip, one after the other, are the strip
+written-records : (size n : ℕ) (s : List ℕ) → written (λ r. r) (records size n s) ≡ take (n * size) s
+unfolding records written
+written-records size zero s = rw zero-mul
+written-records size (suc n) s =
+    let e : suc n * size ≡ size + n * size = rw suc-mul (omega arith) in
+    rw (written-records size n (drop size s), e, take-add)
+
+length-records : (size n : ℕ) (s : List ℕ) → length (records size n s) ≡ n
+unfolding records
+length-records size zero s = refl
+length-records size (suc n) s = ap suc (length-records size n (drop size s))
+
+-- ---- a strip of n records is converted whole, exactly so
+pub record Whole (c : Conversion) (input output : List ℕ) (n : ℕ) : Type 0 where
+  pub long : length input ≡ n * c .from
+  pub room : n * c .to ≤ length output
+  pub passes : Done n ≡ scanOf c n input
+
+module _ (c : Conversion) (input output : List ℕ) (n : ℕ) where
+  pub done-whole : Done n ≡ answerOf c input output → Whole c input output n
+  unfolding answerOf
+  done-whole e = go (eqb (length input % c .from) 0) (leb (length input / c .from * c .to) (length output)) refl refl e
+    where
+      go : (a b : Bool) → eqb (length input % c .from) 0 ≡ a → leb (length input / c .from * c .to) (length output) ≡ b
+          → Done n ≡ choose a (choose b (scanOf c (length input / c .from) input) (Refused ShortOutput 0)) (Refused PartialRecord 0) → Whole c input output n
+      go true true p q e =
+          let m : n ≡ length input / c .from = counted c (length input / c .from) input (Done n) n e refl in
+          record {
+            long = rw m (omega (arith, eqb-true (length input % c .from) 0 p, div-add-mod' (length input) (c .from)));
+            room = rw m (leb-true _ _ q);
+            passes = e ∙ ap (λ (k : ℕ). scanOf c k input) (sym m);
+          }
+      go true false p q e = never e
+      go false b p q e = never e
+
+  pub whole-done : 0 < c .from → Whole c input output n → Done n ≡ answerOf c input output
+  whole-done p w = w .passes ∙ sym (whole-answer c input output n p (w .long) (w .room))
+
+-- ---- a second conversion takes back what the first does, record by record
+
+-- a conversion of what c writes to records as c reads them
+abbrev pub reverse : Conversion → (List ℕ → Check) → (List ℕ → List ℕ) → Conversion
+reverse c inner bytes = record { from = c .to; to = c .from; inner = inner; bytes = bytes }
+
+module _ (c : Conversion) (long : (r : List ℕ) → length (c .bytes r) ≡ c .to) (inner : List ℕ → Check) (bytes : List ℕ → List ℕ)
+    (back : (r : List ℕ) → Good c r → (recordCheck (reverse c inner bytes) (c .bytes r) ≡ check.Check.Passed) × (bytes (c .bytes r) ≡ r)) where
+  scan-back : (rs : List (List ℕ)) (k : ℕ) → AllGood c rs → Done (k + length rs) ≡ scan (recordCheck (reverse c inner bytes)) k (map (c .bytes) rs)
+  unfolding scan
+  scan-back [] k g = rw add-zero
+  scan-back (r ∷ rs) k g = rw (back r (g .0) .0, add-suc, ← suc-add) (scan-back rs (suc k) (g .1))
+
+  written-back : (rs : List (List ℕ)) → AllGood c rs → written bytes (map (c .bytes) rs) ≡ written (λ r. r) rs
+  unfolding written
+  written-back [] g = refl
+  written-back (r ∷ rs) g = rw (back r (g .0) .1, written-back rs (g .1))
+
+  -- what the first conversion writes of a strip
+  abbrev pub image : List ℕ → ℕ → List ℕ
+  image input n = written (c .bytes) (records (c .from) n input)
+
+  module _ (input output : List ℕ) (n : ℕ) (h : IsBytes input) (w : Whole c input output n) where
+    good : AllGood c (records (c .from) n input)
+    good = good-records c n input 0 n (omega (arith, w .long)) h (w .passes)
+
+    again : records (c .to) n (image input n) ≡ map (c .bytes) (records (c .from) n input)
+    again = ap (λ (l : List ℕ). records (c .to) n l) (sym (append-nil (image input n))) ∙ records-written (c .bytes) (c .to) long (c .from) n input []
+
+    -- it begins the output
+    pub image-is : take (n * c .to) (outputAfter c input output (Done n)) ≡ image input n
+    unfolding outputAfter
+    image-is = take-at (image input n) _ (n * c .to) (length-written (c .bytes) (c .to) long (c .from) n input)
+
+    -- the second conversion accepts it whole, where it has room for the first's input
+    pub back-whole : (other : List ℕ) → length input ≤ length other → Whole (reverse c inner bytes) (image input n) other n
+    back-whole other room =
+        record {
+          long = length-written (c .bytes) (c .to) long (c .from) n input;
+          room = omega (arith, w .long);
+          passes =
+              let e : n ≡ 0 + length (records (c .from) n input) = omega (arith, length-records (c .from) n input) in
+              ap Done e
+              ∙ scan-back (records (c .from) n input) 0 good
+              ∙ ap (λ (l : List (List ℕ)). scan (recordCheck (reverse c inner bytes)) 0 l) (sym again);
+        }
+
+    -- and writes the first's input
+    pub back-written : (other : List ℕ) → outputAfter (reverse c inner bytes) (image input n) other (Done n) ≡ input ++ drop (length input) other
+    unfolding outputAfter
+    back-written other = rw (again, written-back _ good, written-records, ← w .long, take-length)
+
+  -- THE TWO CONVERSIONS, one after the other, give the strip back
+  pub round-trip : 0 < c .to → (input output other : List ℕ) (n : ℕ) → IsBytes input → Done n ≡ answerOf c input output → length input ≤ length other
+      → (Done n ≡ answerOf (reverse c inner bytes) (take (n * c .to) (outputAfter c input output (Done n))) other)
+      × (outputAfter (reverse c inner bytes) (take (n * c .to) (outputAfter c input output (Done n))) other (Done n) ≡ input ++ drop (length input) other)
+  round-trip p input output other n h e room =
+      let w = done-whole c input output n e in
+      rw (image-is input output n h w)
+      (whole-done (reverse c inner bytes) (image input n) other n p (back-whole input output n h w other room), back-written input output n h w other)
+
+  -- two strips that are converted whole are one where what is written of them is one
+  same-strip : (input input′ output output′ : List ℕ) (n : ℕ) → IsBytes input → IsBytes input′ → Whole c input output n → Whole c input′ output′ n
+      → image input n ≡ image input′ n → input ≡ input′
+  same-strip input input′ output output′ n h h′ w w′ e =
+      let p : outputAfter (reverse c inner bytes) (image input n) [] (Done n) ≡ input ++ drop (length input) [] = back-written input output n h w [] in
+      let q : outputAfter (reverse c inner bytes) (image input′ n) [] (Done n) ≡ input′ ++ drop (length input′) [] = back-written input′ output′ n h′ w′ [] in
+      sym (rw (drop-nil, append-nil) at p) ∙ ap (λ (l : List ℕ). outputAfter (reverse c inner bytes) l [] (Done n)) e ∙ rw (drop-nil, append-nil) at q
+
+  -- TWO STRIPS ARE ONE exactly where what is written of them is one
+  pub same-written : (input input′ output output′ : List ℕ) (n : ℕ) → IsBytes input → IsBytes input′
+      → Done n ≡ answerOf c input output → Done n ≡ answerOf c input′ output′
+      → (input ≡ input′) ↔ (take (n * c .to) (outputAfter c input output (Done n)) ≡ take (n * c .to) (outputAfter c input′ output′ (Done n)))
+  same-written input input′ output output′ n h h′ e e′ =
+      let w = done-whole c input output n e in
+      let w′ = done-whole c input′ output′ n e′ in
+      rw (image-is input output n h w, image-is input′ output′ n h′ w′)
+      (λ p. ap (λ (s : List ℕ). image s n) p, λ q. same-strip input input′ output output′ n h h′ w w′ q)

@@ -1,0 +1,67 @@
+-- DEMAND 3 of the scene strips: pixel to scene to pixel returns the same bytes, for every strip that is accepted; two pixel strips are one
+-- exactly where their scene strips are.
+-- Assumes nothing.
+use mathlib.Core.Path.{_≡_, refl, ap, sym, _∙_, subst}
+use mathlib.Core.Logic.{_↔_}
+use mathlib.Core.List.{List, _++_}
+use Prim.Native.Nat.{ℕ, _+_, _*_, _^_, _≤_, _<_}
+use native.Mathlib.Omega.{arith}
+use lib.Dec.{lit<}
+use lib.IntN.{ℤ}
+use lib.ListN.{length, take, drop}
+use Rattle.whole.specs.Parts.{up, dn}
+use Rattle.whole.proofs.Words.{parts-fit}
+use Rattle.rules.specs.declared.Answer.the-variants.{Done}
+use Rattle.rules.specs.declared.Check.the-variants.{Passed}
+use Rattle.rules.specs.declared.Setting.{Setting}
+use Rattle.rules.specs.Setting.{codeCheck, Valid}
+use Rattle.rules.specs.Encoding.{sceneCheck}
+use Rattle.rules.specs.Record.{IsBytes, toBits, ofBits, codeBytes, numberBytes, settingOf}
+use Rattle.rules.specs.Strip.{recordCheck, answerOf, outputAfter}
+use Rattle.rules.proofs.Records.{length-record, of-to, bits-fit}
+use Rattle.rules.proofs.Settings.{code-passed}
+use Rattle.curve.specs.Decoded.{decoded}
+use Rattle.curve.proofs.Fit.{decoded-fits}
+use Rattle.curve.proofs.Limit.{decoded-passes}
+use Rattle.encode.specs.Encoded.{encoded}
+use Rattle.encode.proofs.Theorems.{encode-decoded}
+use Rattle.strip.specs.Conversions.{sceneBits, numberCheck, codeBits, pixelToScene, sceneToPixel}
+use Rattle.strip.proofs.Back as back
+use Rattle.strip.proofs.Channelwise.{TakenBack, record-passes, record-back}
+
+-- a code's number, in its bytes, is read back, passes, and is encoded to the code
+code-back : (s : Setting) → Valid s → (n : ℕ) → codeCheck s n ≡ Passed → TakenBack codeBytes numberBytes codeCheck numberCheck sceneBits codeBits s n
+code-back s v n e =
+    record {
+      fits = bits-fit 8 (decoded s n) (below .0) (below .1);
+      passes = rw same (decoded-passes s v n (code-passed s n e));
+      returns = rw same (encode-decoded s v n (code-passed s n e));
+    }
+  where
+    below : (2 * up (decoded s n) < 256 ^ 8) × (2 * dn (decoded s n) ≤ 256 ^ 8)
+    below = parts-fit (decoded s n) (decoded-fits s v n e)
+
+    same : ofBits 8 (toBits 8 (decoded s n)) ≡ decoded s n
+    same = of-to 8 (decoded s n) (below .0) (below .1)
+
+long : (r : List ℕ) → length (pixelToScene .bytes r) ≡ pixelToScene .to
+long r = length-record numberBytes (settingOf r) _
+
+taken-back : (r : List ℕ) → back.Good pixelToScene r → (recordCheck sceneToPixel (pixelToScene .bytes r) ≡ Passed) × (sceneToPixel .bytes (pixelToScene .bytes r) ≡ r)
+taken-back r g = (
+  record-passes codeBytes numberBytes codeCheck numberCheck sceneBits codeBits code-back r g,
+  record-back codeBytes numberBytes codeCheck numberCheck sceneBits codeBits code-back r g,
+)
+
+-- PIXEL TO SCENE TO PIXEL: a strip that is converted whole is returned, byte by byte, where there is room for it
+pub pixel-scene-pixel : (pixels scenes others : List ℕ) (n : ℕ) → IsBytes pixels → Done n ≡ answerOf pixelToScene pixels scenes → length pixels ≤ length others
+    → (Done n ≡ answerOf sceneToPixel (take (n * 28) (outputAfter pixelToScene pixels scenes (Done n))) others)
+    × (outputAfter sceneToPixel (take (n * 28) (outputAfter pixelToScene pixels scenes (Done n))) others (Done n) ≡ pixels ++ drop (length pixels) others)
+pixel-scene-pixel pixels scenes others n h e room =
+    back.round-trip pixelToScene long (sceneToPixel .inner) (sceneToPixel .bytes) taken-back (lit< tt) pixels scenes others n h e room
+
+-- EQUAL PIXEL STRIPS exactly where equal scene strips
+pub scenes-decide : (pixels pixels′ scenes scenes′ : List ℕ) (n : ℕ) → IsBytes pixels → IsBytes pixels′
+    → Done n ≡ answerOf pixelToScene pixels scenes → Done n ≡ answerOf pixelToScene pixels′ scenes′
+    → (pixels ≡ pixels′) ↔ (take (n * 28) (outputAfter pixelToScene pixels scenes (Done n)) ≡ take (n * 28) (outputAfter pixelToScene pixels′ scenes′ (Done n)))
+scenes-decide = back.same-written pixelToScene long (sceneToPixel .inner) (sceneToPixel .bytes) taken-back
