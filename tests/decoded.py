@@ -105,4 +105,5 @@ def main():
     print(f"decoded: {len(odd)} settings and codes are refused as listed ({time.time() - begun:.0f} s)")
 
 
-main()
+if __name__ == "__main__":
+    main()

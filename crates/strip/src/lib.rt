@@ -11,8 +11,8 @@ ghost use Rattle.curve.specs.Ready.{Ready};
 ghost use Rattle.strip.specs.Conversions.{pixelToScene, sceneToPixel, conversionOf};
 ghost use Rattle.strip.specs.Same.{Same};
 
-pub mod pixel;
-pub mod scene;
+mod pixel;
+mod scene;
 
 use curve::decoder::Decoder;
 use rules::Answer;
@@ -21,7 +21,7 @@ use rules::Refusal;
 use rules::Setting;
 
 // Which conversion.
-pub enum Kind {
+enum Kind {
     PixelToScene,
     SceneToPixel,
 }
