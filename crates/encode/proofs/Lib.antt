@@ -2,4 +2,7 @@ mod Search
 mod HalfWays
 mod Codes
 mod Shifted
+mod Sums
+mod ThirdTests
+mod Settings
 pub mod Theorems
