@@ -5,4 +5,5 @@ mod Shifted
 mod Sums
 mod ThirdTests
 mod Settings
+mod Thirds
 pub mod Theorems

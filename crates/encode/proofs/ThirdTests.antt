@@ -26,10 +26,10 @@ abbrev pub twoThirds : Source → ℕ
 twoThirds s = third s * third s / fine
 
 -- ---- half way from one number to another, whose sum, with the offset in each, is A
-module _ (k : Scale) where
-  abbrev pub wide : ℕ
-  wide = 2 ^ 29 * fine
+abbrev pub wide : ℕ
+wide = 2 ^ 29 * fine
 
+module _ (k : Scale) where
   -- what is added to both sides of a comparison with the power part
   abbrev pub added : ℕ
   added = 2 * (2 ^ 24 * plus-less k * wide)
