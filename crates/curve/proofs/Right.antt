@@ -93,7 +93,7 @@ module _ (c : Constants) (start span top : ℕ) (t : List ℕ) (s : Source) (ok 
   toe-test : (i : ℕ) → T (nth (toeTests (logC3 c) start span t) i)
   toe-test i = passes (toeTests (logC3 c) start span t) (toe-ok (logC3 c) start span top t s ok) i
 
-  room : 2 ^ 25 * (1000000 * start + c .f * span) ≤ c .e * span * (2 * offset + 1)
+  pub room : 2 ^ 25 * (1000000 * start + c .f * span) ≤ c .e * span * (2 * offset + 1)
   unfolding nth
   room = leb→le (2 ^ 25 * (1000000 * start + c .f * span)) (c .e * span * (2 * offset + 1)) (toe-test toe-added)
 

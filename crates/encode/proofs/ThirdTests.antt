@@ -9,7 +9,7 @@ use Rattle.rules.specs.Fraction.{Fraction, ratio}
 use Rattle.rules.specs.Curve.{Curve, logC4, logC3, inToe, toeValue}
 use Rattle.rules.specs.Exact.{Scale, signal}
 use Rattle.table.specs.Table.{fine}
-use Rattle.curve.specs.Decoded.{offset, product, rawBy, decoderOf}
+use Rattle.curve.specs.Decoded.{offset, product, rawBy, decoderOf, firstOf}
 use Rattle.curve.proofs.Tests.{Source, slack, every, kappa, plus-less, minus-less, first, bias}
 
 -- ---- the cube root of the ratio, at the scale of the seeds: Newton's steps from a third of what the ratio is above 1
@@ -51,39 +51,39 @@ underValue A v = leb (A * v .over + 2 * (v .minus * 2 ^ 24)) (2 * (v .plus * 2 ^
 abbrev pub overValue : (A : ℕ) (v : Fraction) → Bool
 overValue A v = leb (2 * (v .plus * 2 ^ 24) + 2 * offset * v .over) (A * v .over + 2 * (v .minus * 2 ^ 24))
 
--- ---- half way over the border, from the last code of the toe to the first of the power part
+-- ---- half way from the code n to the next
 
 -- the signal at the code x / 3
 abbrev pub signalAt : Scale → ℕ → Fraction
 signalAt k x = signal k (ratio x 3)
 
-module _ (k : Scale) (t : List ℕ) (s : Source) where
-  abbrev pub last : ℕ
-  last = first k - 1
+module _ (k : Scale) (t : List ℕ) (s : Source) (n A : ℕ) where
+  -- it is at most the exact value at n + 2 / 3, and at least that at n + 1 / 3
+  abbrev pub underTwoThirds : Bool
+  underTwoThirds =
+      choose (inToe (k .curve) (signalAt k (3 * n + 2))) (underValue A (toeValue (k .curve) (signalAt k (3 * n + 2))))
+      (underProduct k A (product t n * twoThirds s))
 
-  abbrev pub around : ℕ
-  around = rawBy (decoderOf k) t last + rawBy (decoderOf k) t (first k)
-
-  abbrev pub underBorder : Bool
-  underBorder =
-      choose (inToe (k .curve) (signalAt k (3 * last + 2))) (underValue around (toeValue (k .curve) (signalAt k (3 * last + 2))))
-      (underProduct k around (product t last * twoThirds s))
-
-  abbrev pub overBorder : Bool
-  overBorder =
-      choose (inToe (k .curve) (signalAt k (3 * last + 1))) (overValue around (toeValue (k .curve) (signalAt k (3 * last + 1))))
-      (overProduct k around ((product t last + 5) * (third s + slack)))
+  abbrev pub overThird : Bool
+  overThird =
+      choose (inToe (k .curve) (signalAt k (3 * n + 1))) (overValue A (toeValue (k .curve) (signalAt k (3 * n + 1))))
+      (overProduct k A ((product t n + 5) * (third s + slack)))
 
 -- ---- the lists
+
+-- curve 3: the codes of the toe are not too near; and half way over the border, from the last code of the toe, l, to the first of the power part, f
+abbrev borderTestsAt : (k : Scale) (den l f : ℕ) → List ℕ → Source → List Bool
+borderTestsAt k den l f t s =
+    leb (6 * den) (2 ^ 25 * 1000000)
+    ∷ underTwoThirds k t s l (rawBy (decoderOf k) t l + rawBy (decoderOf k) t f)
+    ∷ overThird k t s l (rawBy (decoderOf k) t l + rawBy (decoderOf k) t f)
+    ∷ []
 
 -- curve 4 has no toe
 abbrev pub borderTests : Curve → (start span : ℕ) → List ℕ → Source → List Bool
 borderTests logC4 start span t s = []
 borderTests (logC3 c) start span t s =
-    leb (6 * (c .e * span)) (2 ^ 25 * 1000000)
-    ∷ underBorder (record { curve = logC3 c; start = start; span = span }) t s
-    ∷ overBorder (record { curve = logC3 c; start = start; span = span }) t s
-    ∷ []
+    borderTestsAt (record { curve = logC3 c; start = start; span = span }) (c .e * span) (firstOf (logC3 c) start span - 1) (firstOf (logC3 c) start span) t s
 
 -- how much twice the two thirds are above a code and the next code's ratio, and twice the third is below it
 abbrev pub spare-up : Source → ℕ

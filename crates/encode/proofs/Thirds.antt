@@ -3,18 +3,18 @@
 -- Assumes nothing.
 use mathlib.Core.Bool.{Bool, true, false, not}
 use mathlib.Core.List.{List}
-use mathlib.Core.Path.{_≡_, refl, sym, ap, _∙_, subst}
+use mathlib.Core.Path.{_≡_, refl, sym, ap, _∙_, subst, subst₂}
 use Prim.Native.Nat.{ℕ, _+_, _-_, _*_, _/_, _^_, _≤_, _<_}
-use native.Mathlib.Nat.{le-of-eq, le-of-lt, le-trans, mul-pos, mul-le-mul-right, div-mul-le-self, lt-div-mul-add}
+use native.Mathlib.Nat.{le-of-eq, le-of-lt, le-trans, mul-pos, mul-le-mul-right, div-mul-le-self, lt-div-mul-add, not-le-of-lt}
 use native.Mathlib.Omega.{arith}
 use borrow.Author.Tests.{ltb-true, ltb-false}
-use lib.Dec.{T, leb, ltb, leb→le, le→leb, lit<}
+use lib.Dec.{T, leb, ltb, leb→le, le→leb, lit<, not-T}
 use lib.IntN.{ℤ}
 use Rattle.whole.specs.Parts.{up, dn}
 use Rattle.whole.proofs.Tidy.{tidy}
 use Rattle.rules.specs.Choice.{choose}
 use Rattle.rules.specs.Fraction.{Fraction, ratio, integer, _*ℚ_, Versus, VersusPower}
-use Rattle.rules.specs.Curve.{Curve, logC4, logC3, Constants, base, exponent, less, factor, inToe, toeValue}
+use Rattle.rules.specs.Curve.{Curve, logC4, logC3, Constants, base, exponent, less, factor, border, inToe, toeValue}
 use Rattle.rules.specs.Exact.{Scale, signal, powerFor, VersusPart, VersusExact}
 use Rattle.rules.specs.Decoding.{AtMost, AtLeast}
 use Rattle.rules.specs.Decoding as decoding
@@ -27,10 +27,10 @@ use Rattle.curve.specs.Decoded.{offset, product, powerRaw, rawBy, decoderOf, fi
 use Rattle.curve.proofs.Cleared.{exponentAt}
 use Rattle.curve.proofs.Tests.{Source, slack, nth, passes, every, tests, b, by, q, times, kappa, plus-less, minus-less, begin, entry, unit, first, bias}
 use Rattle.curve.proofs.Law as law
-use Rattle.curve.proofs.Right.{raw-toe, raw-power, passed, failed}
+use Rattle.curve.proofs.Right.{raw-toe, raw-power, passed, failed, room, divisor}
 use Rattle.curve.proofs.Compare.{lift-pos, wanted, wanted-is, lifted-ok, by-rules}
 use Rattle.encode.proofs.Sums.{half-le, half-ge, half-toe-le, half-toe-ge, power-le, power-ge}
-use Rattle.encode.proofs.ThirdTests.{third, twoThirds, wide, added, taken, underProduct, overProduct, underValue, overValue, signalAt, last, around, spare-up, spare-down, borderTests, thirdTests, third-low, third-high, apart-up, apart-down, thirds-up, thirds-down, first-in-range, borders}
+use Rattle.encode.proofs.ThirdTests.{third, twoThirds, wide, added, taken, underProduct, overProduct, underValue, overValue, signalAt, underTwoThirds, overThird, spare-up, spare-down, borderTests, thirdTests, third-low, third-high, apart-up, apart-down, thirds-up, thirds-down, first-in-range, borders, toe-apart, border-up, border-down}
 
 -- a scene number as a value, as the tests write it
 abbrev units : ℤ → Fraction
@@ -51,6 +51,13 @@ at-most-power (below h) = h
 
 at-least-power : {b q m x s : ℕ} → Above b q m x s → b ^ m * s ^ q ≤ x ^ q
 at-least-power (above h) = h
+
+-- half way against a value
+value-at-most : (y : ℤ) (v : Fraction) (A : ℕ) → T (underValue A v) → 2 * (up y + offset) ≤ A + 2 * dn y → Versus AtMost (integer y *ℚ decoding.unit) v
+value-at-most y v A g i = simp tidy (half-toe-le (v .over) (v .minus) (v .plus) (2 ^ 24) A offset (up y) (dn y) (leb→le _ _ g) i)
+
+value-at-least : (y : ℤ) (v : Fraction) (A : ℕ) → T (overValue A v) → A + 2 * dn y ≤ 2 * (up y + offset) → Versus AtLeast (integer y *ℚ decoding.unit) v
+value-at-least y v A g i = simp tidy (half-toe-ge (v .over) (v .minus) (v .plus) (2 ^ 24) A offset (up y) (dn y) (leb→le _ _ g) i)
 
 split : (x y : ℕ) → y ≤ x → x ≡ x - y + y
 split x y h = omega arith
@@ -127,6 +134,23 @@ module _ (k : Scale) (top : ℕ) (t : List ℕ) (s : Source) (ok : T (every (tes
       (rw (wanted-is k (units y)) (half-ge (kappa k) wide (2 ^ 24 * plus-less k) (2 ^ 24 * minus-less k) ((product t n + 5) * (third s + slack)) A offset (up y) (dn y) (leb→le _ _ g) i)))
       (above-third n h)))
 
+  -- THE STEP from half way to a number that is at most, at least half way
+  pub at-most-half : (n A : ℕ) (y : ℤ) → n ≤ top → T (underTwoThirds k t s n A) → 2 * (up y + offset) ≤ A + 2 * dn y → VersusExact AtMost k (ratio (3 * n + 2) 3) (integer y *ℚ decoding.unit)
+  at-most-half n A y h g i = go (inToe (k .curve) (signalAt k (3 * n + 2))) g
+    where
+      go : (x : Bool) → T (choose x (underValue A (toeValue (k .curve) (signalAt k (3 * n + 2)))) (underProduct k A (product t n * twoThirds s)))
+          → VersusPart AtMost (k .curve) (signalAt k (3 * n + 2)) (integer y *ℚ decoding.unit) x
+      go true g = VersusPart.toe (value-at-most y (toeValue (k .curve) (signalAt k (3 * n + 2))) A g i)
+      go false g = VersusPart.power (at-most-product n A y h g i)
+
+  pub at-least-half : (n A : ℕ) (y : ℤ) → n ≤ top → T (overThird k t s n A) → A + 2 * dn y ≤ 2 * (up y + offset) → VersusExact AtLeast k (ratio (3 * n + 1) 3) (integer y *ℚ decoding.unit)
+  at-least-half n A y h g i = go (inToe (k .curve) (signalAt k (3 * n + 1))) g
+    where
+      go : (x : Bool) → T (choose x (overValue A (toeValue (k .curve) (signalAt k (3 * n + 1)))) (overProduct k A ((product t n + 5) * (third s + slack))))
+          → VersusPart AtLeast (k .curve) (signalAt k (3 * n + 1)) (integer y *ℚ decoding.unit) x
+      go true g = VersusPart.toe (value-at-least y (toeValue (k .curve) (signalAt k (3 * n + 1))) A g i)
+      go false g = VersusPart.power (at-least-product n A y h g i)
+
   -- ---- both codes of the power part
   abbrev u : ℕ → ℕ
   u n = rawBy (decoderOf k) t n
@@ -160,3 +184,129 @@ module _ (k : Scale) (top : ℕ) (t : List ℕ) (s : Source) (ok : T (every (tes
       (product-high n g) (product-high (n + 1) (further n g)) (law.next-low k top t s ok n h) (law.no-less k top t s ok (first k) n g (le-of-lt h))
       (split (fine + s .ratio) (2 * (third s + slack)) (leb→le (2 * (third s + slack)) (fine + s .ratio) (test apart-down)))
       (leb→le _ _ (test thirds-down)))
+
+-- ---- curve 3: the toe
+module _ (c : Constants) (start span : ℕ) where
+  abbrev scale : Scale
+  scale = record { curve = logC3 c; start = start; span = span }
+
+  toe-third : (x n : ℕ) → n < firstOf (logC3 c) start span → x ≤ 3 * n → T (inToe (logC3 c) (signalAt scale x))
+  toe-third x n h g = values.pass-test (signalAt scale x) (border c) (simp tidy (omega arith))
+
+  below-first : (x n : ℕ) → 3 * n ≤ x → T (inToe (logC3 c) (signalAt scale x)) → n < firstOf (logC3 c) start span
+  below-first x n g h = omega (arith, simp tidy at (values.test-passed (signalAt scale x) (border c) h))
+
+  power-third : (x n : ℕ) → firstOf (logC3 c) start span ≤ n → 3 * n ≤ x → T (not (inToe (logC3 c) (signalAt scale x)))
+  power-third x n h g = not-T (inToe (logC3 c) (signalAt scale x)) (λ t. not-le-of-lt (below-first x n g t) h)
+
+  toe-le : (n a b : ℕ) → 2 ^ 25 * (1000000 * start + c .f * span) ≤ c .e * span * (2 * offset + 1) → 6 * (c .e * span) ≤ 2 ^ 25 * 1000000
+      → a * overOf (logC3 c) span ≤ 2 ^ 25 * 1000000 * n + toeOf (logC3 c) start span
+      → b * overOf (logC3 c) span ≤ 2 ^ 25 * 1000000 * (n + 1) + toeOf (logC3 c) start span
+      → (a + b) * toeValue (logC3 c) (signalAt scale (3 * n + 2)) .over + 2 * (toeValue (logC3 c) (signalAt scale (3 * n + 2)) .minus * 2 ^ 24)
+      ≤ 2 * (toeValue (logC3 c) (signalAt scale (3 * n + 2)) .plus * 2 ^ 24) + 2 * offset * toeValue (logC3 c) (signalAt scale (3 * n + 2)) .over
+  toe-le n a b room apart f g = simp tidy (omega arith)
+
+  toe-ge : (n a b : ℕ) → 2 ^ 25 * (1000000 * start + c .f * span) ≤ c .e * span * (2 * offset + 1) → 6 * (c .e * span) ≤ 2 ^ 25 * 1000000
+      → 2 ^ 25 * 1000000 * n + toeOf (logC3 c) start span < a * overOf (logC3 c) span + overOf (logC3 c) span
+      → 2 ^ 25 * 1000000 * (n + 1) + toeOf (logC3 c) start span < b * overOf (logC3 c) span + overOf (logC3 c) span
+      → 2 * (toeValue (logC3 c) (signalAt scale (3 * n + 1)) .plus * 2 ^ 24) + 2 * offset * toeValue (logC3 c) (signalAt scale (3 * n + 1)) .over
+      ≤ (a + b) * toeValue (logC3 c) (signalAt scale (3 * n + 1)) .over + 2 * (toeValue (logC3 c) (signalAt scale (3 * n + 1)) .minus * 2 ^ 24)
+  toe-ge n a b room apart f g = simp tidy (omega arith)
+
+-- ---- curve 4: the power part alone
+module _ (start span top : ℕ) (t : List ℕ) (s : Source) (ok : T (every (tests (record { curve = logC4; start = start; span = span }) top t s))) (thirds : T (every (thirdTests (record { curve = logC4; start = start; span = span }) top t s))) where
+  abbrev k4 : Scale
+  k4 = record { curve = logC4; start = start; span = span }
+
+  under4 : (n : ℕ) → n < top → T (underTwoThirds k4 t s n (rawBy (decoderOf k4) t n + rawBy (decoderOf k4) t (n + 1)))
+  under4 n h = powers-under k4 top t s ok thirds n (omega arith) h
+
+  over4 : (n : ℕ) → n < top → T (overThird k4 t s n (rawBy (decoderOf k4) t n + rawBy (decoderOf k4) t (n + 1)))
+  over4 n h = powers-over k4 top t s ok thirds n (omega arith) h
+
+-- ---- curve 3: toe and power part
+
+-- the last code of the toe, and the first of the power part
+at-border : (P : ℕ → ℕ → Type 0) (f n : ℕ) → f ≤ n + 1 → n < f → P (f - 1) f → P n (n + 1)
+at-border P f n h g p = subst₂ P (before h g) (after h g) p
+  where
+    before : f ≤ n + 1 → n < f → f - 1 ≡ n
+    before h g = omega arith
+
+    after : f ≤ n + 1 → n < f → f ≡ n + 1
+    after h g = omega arith
+
+module _ (c : Constants) (start span top : ℕ) (t : List ℕ) (s : Source) (ok : T (every (tests (record { curve = logC3 c; start = start; span = span }) top t s))) (thirds : T (every (thirdTests (record { curve = logC3 c; start = start; span = span }) top t s))) where
+  abbrev k3 : Scale
+  k3 = record { curve = logC3 c; start = start; span = span }
+
+  abbrev u3 : ℕ → ℕ
+  u3 n = rawBy (decoderOf k3) t n
+
+  border-test : (i : ℕ) → T (nth (borderTests (logC3 c) start span t s) i)
+  unfolding nth
+  border-test i = passes (borderTests (logC3 c) start span t s) (passes (thirdTests k3 top t s) thirds borders) i
+
+  apart : 6 * (c .e * span) ≤ 2 ^ 25 * 1000000
+  unfolding nth
+  apart = leb→le (6 * (c .e * span)) (2 ^ 25 * 1000000) (border-test toe-apart)
+
+  toe-low : (n : ℕ) → n < first k3 → u3 n * overOf (logC3 c) span ≤ 2 ^ 25 * 1000000 * n + toeOf (logC3 c) start span
+  toe-low n h = rw (raw-toe (decoderOf k3) t n h) (div-mul-le-self (2 ^ 25 * 1000000 * n + toeOf (logC3 c) start span) (overOf (logC3 c) span))
+
+  toe-high : (n : ℕ) → n < first k3 → 2 ^ 25 * 1000000 * n + toeOf (logC3 c) start span < u3 n * overOf (logC3 c) span + overOf (logC3 c) span
+  toe-high n h =
+      rw (raw-toe (decoderOf k3) t n h)
+      (lt-div-mul-add {a = 2 ^ 25 * 1000000 * n + toeOf (logC3 c) start span} {b = overOf (logC3 c) span} (twice (c .e * span) (divisor c start span top t s ok)))
+    where
+      twice : (d : ℕ) → 0 < d → 0 < 2 * d
+      twice d h = omega arith
+
+  earlier : (n : ℕ) → n + 1 < first k3 → n < first k3
+  earlier n h = before (first k3) h
+    where
+      before : (f : ℕ) → n + 1 < f → n < f
+      before f h = omega arith
+
+  toes-under : (n : ℕ) → n + 1 < first k3 → T (underTwoThirds k3 t s n (u3 n + u3 (n + 1)))
+  toes-under n h =
+      rw (passed (inToe (logC3 c) (signalAt k3 (3 * n + 2))) (toe-third c start span (3 * n + 2) (n + 1) h (omega arith)))
+      (le→leb _ _ (toe-le c start span n (u3 n) (u3 (n + 1)) (room c start span top t s ok) apart (toe-low n (earlier n h)) (toe-low (n + 1) h)))
+
+  toes-over : (n : ℕ) → n + 1 < first k3 → T (overThird k3 t s n (u3 n + u3 (n + 1)))
+  toes-over n h =
+      rw (passed (inToe (logC3 c) (signalAt k3 (3 * n + 1))) (toe-third c start span (3 * n + 1) (n + 1) h (omega arith)))
+      (le→leb _ _ (toe-ge c start span n (u3 n) (u3 (n + 1)) (room c start span top t s ok) apart (toe-high n (earlier n h)) (toe-high (n + 1) h)))
+
+  -- a fact of neighbouring codes, from the three places where they may be
+  by-place : (P : ℕ → ℕ → Type 0) → ((n : ℕ) → n + 1 < first k3 → P n (n + 1)) → P (first k3 - 1) (first k3) → ((n : ℕ) → first k3 ≤ n → n < top → P n (n + 1))
+      → (n : ℕ) → n < top → P n (n + 1)
+  by-place P f g h n l = go (ltb (n + 1) (first k3)) refl (ltb n (first k3)) refl
+    where
+      go : (x : Bool) → ltb (n + 1) (first k3) ≡ x → (y : Bool) → ltb n (first k3) ≡ y → P n (n + 1)
+      go true e y i = f n (ltb-true (n + 1) (first k3) e)
+      go false e true i = at-border P (first k3) n (ltb-false (n + 1) (first k3) e) (ltb-true n (first k3) i) g
+      go false e false i = h n (ltb-false n (first k3) i) l
+
+  under3 : (n : ℕ) → n < top → T (underTwoThirds k3 t s n (u3 n + u3 (n + 1)))
+  unfolding nth
+  under3 =
+      by-place (λ m n. T (underTwoThirds k3 t s m (u3 m + u3 n))) toes-under (border-test border-up)
+      (λ n g h. rw (failed (inToe (logC3 c) (signalAt k3 (3 * n + 2))) (power-third c start span (3 * n + 2) n g (omega arith))) (powers-under k3 top t s ok thirds n g h))
+
+  over3 : (n : ℕ) → n < top → T (overThird k3 t s n (u3 n + u3 (n + 1)))
+  unfolding nth
+  over3 =
+      by-place (λ m n. T (overThird k3 t s m (u3 m + u3 n))) toes-over (border-test border-down)
+      (λ n g h. rw (failed (inToe (logC3 c) (signalAt k3 (3 * n + 1))) (power-third c start span (3 * n + 1) n g (omega arith))) (powers-over k3 top t s ok thirds n g h))
+
+-- ---- both
+pub under : (c : Curve) (start span top : ℕ) (t : List ℕ) (s : Source) → T (every (tests (record { curve = c; start = start; span = span }) top t s)) → T (every (thirdTests (record { curve = c; start = start; span = span }) top t s))
+    → (n : ℕ) → n < top → T (underTwoThirds (record { curve = c; start = start; span = span }) t s n (rawBy (decoderOf (record { curve = c; start = start; span = span })) t n + rawBy (decoderOf (record { curve = c; start = start; span = span })) t (n + 1)))
+under logC4 start span top t s ok thirds = under4 start span top t s ok thirds
+under (logC3 c) start span top t s ok thirds = under3 c start span top t s ok thirds
+
+pub over : (c : Curve) (start span top : ℕ) (t : List ℕ) (s : Source) → T (every (tests (record { curve = c; start = start; span = span }) top t s)) → T (every (thirdTests (record { curve = c; start = start; span = span }) top t s))
+    → (n : ℕ) → n < top → T (overThird (record { curve = c; start = start; span = span }) t s n (rawBy (decoderOf (record { curve = c; start = start; span = span })) t n + rawBy (decoderOf (record { curve = c; start = start; span = span })) t (n + 1)))
+over logC4 start span top t s ok thirds = over4 start span top t s ok thirds
+over (logC3 c) start span top t s ok thirds = over3 c start span top t s ok thirds
