@@ -2,21 +2,28 @@
 -- Assumes nothing.
 use mathlib.Core.Bool.{Bool, true, false}
 use mathlib.Core.Logic.{_⊎_, inl, inr}
-use mathlib.Core.Path.{_≡_, refl, ap, subst}
+use mathlib.Core.Path.{_≡_, refl, ap, _∙_, subst}
 use Prim.Native.Nat.{ℕ, zero, suc, _+_, _-_, _*_, _^_, _≤_, _<_}
 use native.Mathlib.Omega.{arith}
 use borrow.Author.Tests.{eqb-true, eqb-false}
-use lib.Dec.{eqb, lit<}
-use lib.IntN.{ℤ, pos, negsuc}
+use lib.Dec.{T, eqb, leb, leb→le, lit<}
+use lib.IntN.{ℤ, pos, negsuc, subℕ}
+use lib.Signed.{_≤ℤ_}
 use Rattle.whole.specs.Parts.{up, dn}
-use Rattle.whole.proofs.Reflect.{one-zero}
+use Rattle.whole.proofs.Reflect.{one-zero, at, leZ-of, sub-dif}
 use Rattle.whole.proofs.Tidy.{tidy}
 use Rattle.rules.specs.Fraction.{Fraction, whole, ratio, integer, _+ℚ_, _-ℚ_, _*ℚ_, VersusPower}
-use Rattle.rules.specs.Setting.{settingCheck}
+use Rattle.rules.specs.declared.Setting.{Setting}
+use Rattle.rules.specs.Setting.{settingCheck, topOf, Valid}
 use Rattle.rules.specs.Curve.{logC4, exponent}
 use Rattle.rules.specs.Exact.{Scale, signal, scaleOf, powerFor, VersusPart}
 use Rattle.rules.specs.Decoding.{Less, Greater, Decodes, DecodesPart, nearness, unit}
+use Rattle.rules.specs.Encoding.{IsNearest, sceneCheck}
 use Rattle.rules.proofs.Values as values
+use Rattle.rules.proofs.Settings.{forSettings, for-valid}
+use Rattle.table.specs.Table.{tableOf, logC3Table, logC4Table}
+use Rattle.curve.specs.Decoded.{offset, rawBy, raw, decoded}
+use Rattle.encode.proofs.Theorems.{nearest-only, encoded-last}
 use Rattle.checks.specs.Marked.{Marked, setting}
 
 abbrev curve4 : Scale
@@ -58,9 +65,20 @@ code-0 y (DecodesPart.toe e) = e
 code-100 : (y : ℤ) → Decodes (scaleOf (setting 3 12 800)) 100 y → y ≡ negsuc 213757
 code-100 y (DecodesPart.toe e) = e
 
+-- no decoded number is above 2 ^ 40 (with the offset), computed for the top code of every setting
+all-below : T (forSettings (λ c w e. leb (raw (setting c w e) (topOf w)) (2 ^ 40 + offset)))
+unfolding tableOf logC3Table logC4Table rawBy
+all-below = tt
+
+scene-limit : (s : Setting) → Valid s → (n : ℕ) → IsNearest (decoded s) (topOf (s .width)) (pos (2 ^ 40)) n → n ≡ topOf (s .width)
+scene-limit s v n i = nearest-only s (pos (2 ^ 40)) n i ∙ encoded-last s v (pos (2 ^ 40)) (not-above (raw s (topOf (s .width))) (leb→le (raw s (topOf (s .width))) (2 ^ 40 + offset) (for-valid (λ c w e. leb (raw (setting c w e) (topOf w)) (2 ^ 40 + offset)) all-below s v)))
+  where
+    not-above : (u : ℕ) → u ≤ 2 ^ 40 + offset → subℕ u offset ≤ℤ pos (2 ^ 40)
+    not-above u h = leZ-of (at (subℕ u offset)) (at (pos (2 ^ 40))) (omega (arith, sub-dif u offset))
+
 -- THE LIST
 pub marked : Marked
-unfolding settingCheck
+unfolding settingCheck sceneCheck
 marked =
     record {
       code-4095 = code-4095;
@@ -73,4 +91,7 @@ marked =
       ei-2000 = refl;
       code-1023 = refl;
       code-1024 = refl;
+      scene-limit = scene-limit;
+      scene-limit-passes = refl;
+      scene-past-limit = refl;
     }

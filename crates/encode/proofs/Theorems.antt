@@ -5,7 +5,9 @@ use Prim.Native.Nat.{ℕ, _+_, _-_, _*_, _≤_, _<_}
 use native.Mathlib.Nat.{le-of-lt}
 use native.Mathlib.Omega.{arith}
 use lib.IntN.{ℤ}
+use lib.Signed.{_≤ℤ_}
 use Rattle.whole.specs.Parts.{up, dn}
+use Rattle.whole.proofs.Reflect.{at, leN-of, sub-dif}
 use Rattle.rules.specs.declared.Setting.{Setting}
 use Rattle.rules.specs.Fraction.{ratio, integer, _*ℚ_}
 use Rattle.rules.specs.Setting.{topOf, curveOf, Valid}
@@ -18,7 +20,7 @@ use Rattle.curve.specs.Decoded.{offset, raw, decoded}
 use Rattle.curve.proofs.Settings.{sourceOf, passed}
 use Rattle.curve.proofs.Theorems.{raw-rises}
 use Rattle.encode.specs.Encoded.{encoded}
-use Rattle.encode.proofs.HalfWays.{Within, own-within, nearest-within}
+use Rattle.encode.proofs.HalfWays.{Within, own-within, first-within, last-within, nearest-within}
 use Rattle.encode.proofs.Codes.{code-is}
 use Rattle.encode.proofs.Settings.{thirds-passed}
 use Rattle.encode.proofs.Thirds.{at-most-half, at-least-half, under, over}
@@ -30,6 +32,15 @@ encoded-nearest s x = closest.closest-is-nearest (decoded s) x (topOf (s .width)
 -- no other code is nearest
 pub nearest-only : (s : Setting) (x : ℤ) (n : ℕ) → IsNearest (decoded s) (topOf (s .width)) x n → n ≡ encoded s x
 nearest-only s x n i = closest.nearest-only (decoded s) x (topOf (s .width)) n (encoded s x) i (encoded-nearest s x)
+
+-- "Below code 0 that is 0, above the top code it is the top."
+pub encoded-first : (s : Setting) → Valid s → (x : ℤ) → x ≤ℤ decoded s 0 → encoded s x ≡ 0
+encoded-first s v x h =
+    sym (code-is s v x 0 (first-within (raw s) (topOf (s .width)) (raw-rises s v) x (omega (arith, leN-of (at x) (at (decoded s 0)) h, sub-dif (raw s 0) offset))))
+
+pub encoded-last : (s : Setting) → Valid s → (x : ℤ) → decoded s (topOf (s .width)) ≤ℤ x → encoded s x ≡ topOf (s .width)
+encoded-last s v x h =
+    sym (code-is s v x (topOf (s .width)) (last-within (raw s) (topOf (s .width)) (raw-rises s v) x (omega (arith, leN-of (at (decoded s (topOf (s .width)))) (at x) h, sub-dif (raw s (topOf (s .width))) offset))))
 
 -- a decoded number is encoded to its code
 pub encode-decoded : (s : Setting) → Valid s → (n : ℕ) → n ≤ topOf (s .width) → encoded s (decoded s n) ≡ n

@@ -92,15 +92,14 @@ spare-up s = 2 * twoThirds s - (fine + (s .ratio + slack))
 abbrev pub spare-down : Source → ℕ
 spare-down s = fine + s .ratio - 2 * (third s + slack)
 
-abbrev pub thirdTests : (k : Scale) (top : ℕ) (t : List ℕ) (s : Source) → List Bool
-thirdTests k top t s =
+abbrev pub thirdTests : (k : Scale) (t : List ℕ) (s : Source) → List Bool
+thirdTests k t s =
     leb (third s ^ 3 * fine) (s .ratio * fine ^ 3)
     ∷ leb ((s .ratio + slack) * fine ^ 3) ((third s + slack) ^ 3 * fine)
     ∷ leb (fine + (s .ratio + slack)) (2 * twoThirds s)
     ∷ leb (2 * (third s + slack)) (fine + s .ratio)
     ∷ leb (5 * kappa k * (s .ratio + slack) + 2 * kappa k * bias k * fine + added k + 5 * kappa k * spare-up s) (kappa k * product t (first k) * spare-up s + taken k)
     ∷ leb (10 * kappa k * (third s + slack) + 5 * kappa k * spare-down s + 5 * kappa k * fine + 2 * kappa k * 2 ^ 29 * fine + taken k) (kappa k * product t (first k) * spare-down s + 2 * kappa k * bias k * fine + added k)
-    ∷ leb (first k) top
     ∷ every (borderTests (k .curve) (k .start) (k .span) t s)
     ∷ []
 
@@ -123,11 +122,8 @@ thirds-up = 4
 abbrev pub thirds-down : ℕ
 thirds-down = 5
 
-abbrev pub first-in-range : ℕ
-first-in-range = 6
-
 abbrev pub borders : ℕ
-borders = 7
+borders = 6
 
 -- of borderTests
 abbrev pub toe-apart : ℕ

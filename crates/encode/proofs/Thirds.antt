@@ -30,7 +30,7 @@ use Rattle.curve.proofs.Law as law
 use Rattle.curve.proofs.Right.{raw-toe, raw-power, passed, failed, room, divisor}
 use Rattle.curve.proofs.Compare.{lift-pos, wanted, wanted-is, lifted-ok, by-rules}
 use Rattle.encode.proofs.Sums.{half-le, half-ge, half-toe-le, half-toe-ge, power-le, power-ge}
-use Rattle.encode.proofs.ThirdTests.{third, twoThirds, wide, added, taken, underProduct, overProduct, underValue, overValue, signalAt, underTwoThirds, overThird, spare-up, spare-down, borderTests, thirdTests, third-low, third-high, apart-up, apart-down, thirds-up, thirds-down, first-in-range, borders, toe-apart, border-up, border-down}
+use Rattle.encode.proofs.ThirdTests.{third, twoThirds, wide, added, taken, underProduct, overProduct, underValue, overValue, signalAt, underTwoThirds, overThird, spare-up, spare-down, borderTests, thirdTests, third-low, third-high, apart-up, apart-down, thirds-up, thirds-down, borders, toe-apart, border-up, border-down}
 
 -- a scene number as a value, as the tests write it
 abbrev units : ℤ → Fraction
@@ -62,9 +62,9 @@ value-at-least y v A g i = simp tidy (half-toe-ge (v .over) (v .minus) (v .plus)
 split : (x y : ℕ) → y ≤ x → x ≡ x - y + y
 split x y h = omega arith
 
-module _ (k : Scale) (top : ℕ) (t : List ℕ) (s : Source) (ok : T (every (tests k top t s))) (thirds : T (every (thirdTests k top t s))) where
-  test : (i : ℕ) → T (nth (thirdTests k top t s) i)
-  test i = passes (thirdTests k top t s) thirds i
+module _ (k : Scale) (top : ℕ) (t : List ℕ) (s : Source) (ok : T (every (tests k top t s))) (thirds : T (every (thirdTests k t s))) where
+  test : (i : ℕ) → T (nth (thirdTests k t s) i)
+  test i = passes (thirdTests k t s) thirds i
 
   -- ---- the power of a code and a third, or two thirds
   third-in : In (b k) (q k * 3) (by k) (third s) (third s + slack) fine
@@ -214,7 +214,7 @@ module _ (c : Constants) (start span : ℕ) where
   toe-ge n a b room apart f g = simp tidy (omega arith)
 
 -- ---- curve 4: the power part alone
-module _ (start span top : ℕ) (t : List ℕ) (s : Source) (ok : T (every (tests (record { curve = logC4; start = start; span = span }) top t s))) (thirds : T (every (thirdTests (record { curve = logC4; start = start; span = span }) top t s))) where
+module _ (start span top : ℕ) (t : List ℕ) (s : Source) (ok : T (every (tests (record { curve = logC4; start = start; span = span }) top t s))) (thirds : T (every (thirdTests (record { curve = logC4; start = start; span = span }) t s))) where
   abbrev k4 : Scale
   k4 = record { curve = logC4; start = start; span = span }
 
@@ -236,7 +236,7 @@ at-border P f n h g p = subst₂ P (before h g) (after h g) p
     after : f ≤ n + 1 → n < f → f ≡ n + 1
     after h g = omega arith
 
-module _ (c : Constants) (start span top : ℕ) (t : List ℕ) (s : Source) (ok : T (every (tests (record { curve = logC3 c; start = start; span = span }) top t s))) (thirds : T (every (thirdTests (record { curve = logC3 c; start = start; span = span }) top t s))) where
+module _ (c : Constants) (start span top : ℕ) (t : List ℕ) (s : Source) (ok : T (every (tests (record { curve = logC3 c; start = start; span = span }) top t s))) (thirds : T (every (thirdTests (record { curve = logC3 c; start = start; span = span }) t s))) where
   abbrev k3 : Scale
   k3 = record { curve = logC3 c; start = start; span = span }
 
@@ -245,7 +245,7 @@ module _ (c : Constants) (start span top : ℕ) (t : List ℕ) (s : Source) (ok 
 
   border-test : (i : ℕ) → T (nth (borderTests (logC3 c) start span t s) i)
   unfolding nth
-  border-test i = passes (borderTests (logC3 c) start span t s) (passes (thirdTests k3 top t s) thirds borders) i
+  border-test i = passes (borderTests (logC3 c) start span t s) (passes (thirdTests k3 t s) thirds borders) i
 
   apart : 6 * (c .e * span) ≤ 2 ^ 25 * 1000000
   unfolding nth
@@ -301,12 +301,12 @@ module _ (c : Constants) (start span top : ℕ) (t : List ℕ) (s : Source) (ok 
       (λ n g h. rw (failed (inToe (logC3 c) (signalAt k3 (3 * n + 1))) (power-third c start span (3 * n + 1) n g (omega arith))) (powers-over k3 top t s ok thirds n g h))
 
 -- ---- both
-pub under : (c : Curve) (start span top : ℕ) (t : List ℕ) (s : Source) → T (every (tests (record { curve = c; start = start; span = span }) top t s)) → T (every (thirdTests (record { curve = c; start = start; span = span }) top t s))
+pub under : (c : Curve) (start span top : ℕ) (t : List ℕ) (s : Source) → T (every (tests (record { curve = c; start = start; span = span }) top t s)) → T (every (thirdTests (record { curve = c; start = start; span = span }) t s))
     → (n : ℕ) → n < top → T (underTwoThirds (record { curve = c; start = start; span = span }) t s n (rawBy (decoderOf (record { curve = c; start = start; span = span })) t n + rawBy (decoderOf (record { curve = c; start = start; span = span })) t (n + 1)))
 under logC4 start span top t s ok thirds = under4 start span top t s ok thirds
 under (logC3 c) start span top t s ok thirds = under3 c start span top t s ok thirds
 
-pub over : (c : Curve) (start span top : ℕ) (t : List ℕ) (s : Source) → T (every (tests (record { curve = c; start = start; span = span }) top t s)) → T (every (thirdTests (record { curve = c; start = start; span = span }) top t s))
+pub over : (c : Curve) (start span top : ℕ) (t : List ℕ) (s : Source) → T (every (tests (record { curve = c; start = start; span = span }) top t s)) → T (every (thirdTests (record { curve = c; start = start; span = span }) t s))
     → (n : ℕ) → n < top → T (overThird (record { curve = c; start = start; span = span }) t s n (rawBy (decoderOf (record { curve = c; start = start; span = span })) t n + rawBy (decoderOf (record { curve = c; start = start; span = span })) t (n + 1)))
 over logC4 start span top t s ok thirds = over4 start span top t s ok thirds
 over (logC3 c) start span top t s ok thirds = over3 c start span top t s ok thirds

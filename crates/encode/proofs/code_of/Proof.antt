@@ -12,8 +12,10 @@ use mir.Val.{SFits}
 use Rattle.whole.specs.Parts.{up, dn}
 use Rattle.whole.proofs.Reflect.{at, leN-of, ltN-of}
 use Rattle.whole.proofs.Words.{read-back}
-use Rattle.curve.specs.Decoded.{offset}
-use Rattle.encode.proofs.HalfWays.{found-within, lowest-within}
+use Rattle.rules.specs.Setting.{topOf}
+use Rattle.curve.specs.Decoded.{offset, raw}
+use Rattle.curve.proofs.Theorems.{raw-rises}
+use Rattle.encode.proofs.HalfWays.{found-within, first-within}
 use Rattle.encode.proofs.Codes.{scene-passed, rising, code-is}
 use Rattle.encode.proofs.Shifted as shifted
 use Rattle.encode.proofs.code_of.Statement.{statement}
@@ -34,7 +36,7 @@ above : (c : tie.Else1) → dn (c .before .before .args .x .0) ≤ up (c .before
 above c = shifted.not-under (c .before .before .args .x .0) (rw (read-back (fits (c .before))) at (c .if1 .left))
 
 returns : tie.Need-returns
-returns c = code-is (c .before .before .args .s) (c .before .before .pre .0 .valid) (c .before .before .args .x .0) 0 (lowest-within _ _ (c .before .before .args .x .0) (below c))
+returns c = code-is (c .before .before .args .s) (c .before .before .pre .0 .valid) (c .before .before .args .x .0) 0 (first-within (raw (c .before .before .args .s)) (topOf (c .before .before .args .s .width)) (raw-rises (c .before .before .args .s) (c .before .before .pre .0 .valid)) (c .before .before .args .x .0) (omega (arith, below c)))
 
 add-find : tie.Need-add-find
 add-find c = shifted.add-fits (c .before .before .before .args .x .0) (fits (c .before .before)) (above (c .before)) (scene-passed (c .before .before .before .args .x .0) (c .before .before .before .pre .1) .0)
