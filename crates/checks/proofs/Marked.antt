@@ -24,7 +24,7 @@ use Rattle.rules.proofs.Settings.{forSettings, for-valid}
 use Rattle.table.specs.Table.{tableOf, logC3Table, logC4Table}
 use Rattle.curve.specs.Decoded.{offset, rawBy, raw, decoded}
 use Rattle.encode.proofs.Theorems.{nearest-only, encoded-last}
-use Rattle.checks.specs.Marked.{Marked, setting}
+use Rattle.checks.specs.Marked.{Marked, setting, limit}
 
 abbrev curve4 : Scale
 curve4 = scaleOf (setting 4 12 0)
@@ -65,16 +65,16 @@ code-0 y (DecodesPart.toe e) = e
 code-100 : (y : ℤ) → Decodes (scaleOf (setting 3 12 800)) 100 y → y ≡ negsuc 213757
 code-100 y (DecodesPart.toe e) = e
 
--- no decoded number is above 2 ^ 40 (with the offset), computed for the top code of every setting
-all-below : T (forSettings (λ c w e. leb (raw (setting c w e) (topOf w)) (2 ^ 40 + offset)))
+-- no decoded number is above the limit (with the offset), computed for the top code of every setting
+all-below : T (forSettings (λ c w e. leb (raw (setting c w e) (topOf w)) (limit + offset)))
 unfolding tableOf logC3Table logC4Table rawBy
 all-below = tt
 
-scene-limit : (s : Setting) → Valid s → (n : ℕ) → IsNearest (decoded s) (topOf (s .width)) (pos (2 ^ 40)) n → n ≡ topOf (s .width)
-scene-limit s v n i = nearest-only s (pos (2 ^ 40)) n i ∙ encoded-last s v (pos (2 ^ 40)) (not-above (raw s (topOf (s .width))) (leb→le (raw s (topOf (s .width))) (2 ^ 40 + offset) (for-valid (λ c w e. leb (raw (setting c w e) (topOf w)) (2 ^ 40 + offset)) all-below s v)))
+scene-limit : (s : Setting) → Valid s → (n : ℕ) → IsNearest (decoded s) (topOf (s .width)) (pos limit) n → n ≡ topOf (s .width)
+scene-limit s v n i = nearest-only s (pos limit) n i ∙ encoded-last s v (pos limit) (not-above (raw s (topOf (s .width))) (leb→le (raw s (topOf (s .width))) (limit + offset) (for-valid (λ c w e. leb (raw (setting c w e) (topOf w)) (limit + offset)) all-below s v)))
   where
-    not-above : (u : ℕ) → u ≤ 2 ^ 40 + offset → subℕ u offset ≤ℤ pos (2 ^ 40)
-    not-above u h = leZ-of (at (subℕ u offset)) (at (pos (2 ^ 40))) (omega (arith, sub-dif u offset))
+    not-above : (u : ℕ) → u ≤ limit + offset → subℕ u offset ≤ℤ pos (2 ^ 40)
+    not-above u h = leZ-of (at (subℕ u offset)) (at (pos limit)) (omega (arith, sub-dif u offset))
 
 -- THE LIST
 pub marked : Marked

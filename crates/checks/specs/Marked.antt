@@ -19,6 +19,10 @@ use Rattle.curve.specs.Decoded.{decoded}
 abbrev pub setting : (curve width ei : ℕ) → Setting
 setting curve width ei = record { curve = curve; width = width; ei = ei }
 
+-- the highest scene number to encode
+abbrev pub limit : ℕ
+limit = 2 ^ 40
+
 pub record Marked : Type 0 where
   -- "curve 4, width 12, code 4095 is exactly 2349/5,
   pub code-4095 : VersusExact (λ m n. m ≡ n) (scaleOf (setting 4 12 0)) (whole 4095) (ratio 2349 5)
@@ -39,6 +43,6 @@ pub record Marked : Type 0 where
   pub code-1023 : then (settingCheck (setting 3 10 800)) (codeCheck (setting 3 10 800) 1023) ≡ Passed
   pub code-1024 : numberOfCheck (then (settingCheck (setting 3 10 800)) (codeCheck (setting 3 10 800) 1024)) ≡ 6
   -- "Scene 2^40 gives top, one more gives 7." (of every setting)
-  pub scene-limit : (s : Setting) → Valid s → (n : ℕ) → IsNearest (decoded s) (topOf (s .width)) (pos (2 ^ 40)) n → n ≡ topOf (s .width)
-  pub scene-limit-passes : sceneCheck (pos (2 ^ 40)) ≡ Passed
-  pub scene-past-limit : numberOfCheck (sceneCheck (pos (2 ^ 40 + 1))) ≡ 7
+  pub scene-limit : (s : Setting) → Valid s → (n : ℕ) → IsNearest (decoded s) (topOf (s .width)) (pos limit) n → n ≡ topOf (s .width)
+  pub scene-limit-passes : sceneCheck (pos limit) ≡ Passed
+  pub scene-past-limit : numberOfCheck (sceneCheck (pos (limit + 1))) ≡ 7

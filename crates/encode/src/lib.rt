@@ -8,7 +8,6 @@ ghost use Rattle.curve.specs.Decoded.{rawBy};
 ghost use Rattle.encode.specs.Encoded.{encoded, Ready};
 ghost use Rattle.encode.specs.Answer.{codeAfter, encodeAnswer};
 ghost use Rattle.encode.specs.Search.{Rising, Found};
-
 use curve::decoder::Decoder;
 use rules::Check;
 use rules::Code;

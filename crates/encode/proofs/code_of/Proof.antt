@@ -45,8 +45,10 @@ cast-find : tie.Need-cast-find
 cast-find c = shifted.cast-fits (c .before .before .before .args .x .0) (fits (c .before .before)) (above (c .before)) (scene-passed (c .before .before .before .args .x .0) (c .before .before .before .pre .1) .0)
 
 find-requires : tie.Need-find-requires
-find-requires c κs = (rw (c .before .before .before .pre .0 .decoder, c .before .before .before .pre .0 .table, c .top-code .ensures) (rising (c .before .before .before .args .s) (c .before .before .before .pre .0 .valid)),
-  shifted.small (c .before .before .before .args .x .0) (fits (c .before .before)) (above (c .before)) (scene-passed (c .before .before .before .args .x .0) (c .before .before .before .pre .1) .0))
+find-requires c κs = (
+  rw (c .before .before .before .pre .0 .decoder, c .before .before .before .pre .0 .table, c .top-code .ensures) (rising (c .before .before .before .args .s) (c .before .before .before .pre .0 .valid)),
+  shifted.small (c .before .before .before .args .x .0) (fits (c .before .before)) (above (c .before)) (scene-passed (c .before .before .before .args .x .0) (c .before .before .before .pre .1) .0),
+)
 
 returns-2 : tie.Need-returns-2
 returns-2 c =
