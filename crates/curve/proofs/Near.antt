@@ -1,18 +1,16 @@
 -- Of a scale whose tests are passed: in the power part the decoded number is as near to the exact value as the rules ask.
 -- Assumes nothing.
-use mathlib.Core.Path.{_≡_, sym, ap, ap₂, _∙_, subst}
+use mathlib.Core.Path.{_≡_, _∙_, subst}
 use mathlib.Core.List.{List}
-use Prim.Native.Nat.{ℕ, zero, suc, _+_, _-_, _*_, _/_, _^_, _≤_, _<_}
-use native.Mathlib.Nat.{le-trans, le-of-eq, lt-of-le-of-lt, lt-of-lt-of-le, lt-of-mul-lt-mul-right, mul-lt-mul-of-pos-right, mul-assoc, mul-comm, mul-sub, mul-le-mul-left, mul-pos, one-le-pow, div-mul-le-self, lt-div-mul-add}
+use Prim.Native.Nat.{ℕ, _+_, _-_, _*_, _/_, _^_, _≤_, _<_}
+use native.Mathlib.Nat.{mul-lt-mul-of-pos-right, mul-comm, mul-sub, mul-le-mul-left, mul-pos, div-mul-le-self, lt-div-mul-add}
 use native.Mathlib.Omega.{arith}
-use lib.Dec.{T, ltb→lt, leb→le, lit<}
+use lib.Dec.{T, ltb→lt, lit<}
 use lib.IntN.{ℤ, subℕ}
-use lib.Pow.{pow-add}
 use Rattle.whole.specs.Parts.{up, dn}
-use Rattle.whole.proofs.Powers.{mul-pow, pow-mul}
 use Rattle.whole.proofs.Reflect.{sub-dif}
 use Rattle.whole.proofs.Tidy.{tidy}
-use Rattle.rules.specs.Fraction.{Fraction, ratio, whole, integer, _+ℚ_, _-ℚ_, _*ℚ_, Versus, VersusPower, cleared}
+use Rattle.rules.specs.Fraction.{Fraction, whole, integer, _+ℚ_, _-ℚ_, _*ℚ_, Versus, VersusPower}
 use Rattle.rules.specs.Curve.{base, exponent, factor}
 use Rattle.rules.specs.Curve as curve
 use Rattle.rules.specs.Exact.{Scale, signal, powerFor}
@@ -23,8 +21,8 @@ use Rattle.power.specs.Power.{Below, Above}
 use Rattle.power.proofs.Interval.{below-lt, above-lt}
 use Rattle.table.specs.Table.{lift}
 use Rattle.curve.specs.Decoded.{offset, product, powerRaw, decoderOf}
-use Rattle.curve.proofs.Cleared.{rise, above, den, exponentAt, exponent-is}
-use Rattle.curve.proofs.Tests.{Source, nth, passes, every, tests, b, by, q, times, kappa, plus-less, minus-less, begin, entry, unit, first, bias, near, far, kappa-positive, lifted, near-above, near-below}
+use Rattle.curve.proofs.Cleared.{above, exponentAt}
+use Rattle.curve.proofs.Tests.{Source, nth, passes, every, tests, b, by, q, times, kappa, plus-less, minus-less, begin, entry, unit, first, bias, near, far, near-above, near-below}
 use Rattle.curve.proofs.Law.{q-nonzero, law, product-positive}
 use Rattle.curve.proofs.Compare.{kappa-pos, lift-pos, wanted, wanted-is, lifted-ok, by-rules}
 

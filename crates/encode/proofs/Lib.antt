@@ -1,4 +1,4 @@
-mod Search
+mod Interval
 mod HalfWays
 mod Codes
 mod Shifted

@@ -3,19 +3,19 @@
 -- Assumes nothing.
 use mathlib.Core.Bool.{Bool, true, false, not}
 use mathlib.Core.List.{List}
-use mathlib.Core.Path.{_≡_, refl, sym, ap, _∙_, subst, subst₂}
+use mathlib.Core.Path.{_≡_, refl, _∙_, subst, subst₂}
 use Prim.Native.Nat.{ℕ, _+_, _-_, _*_, _/_, _^_, _≤_, _<_}
-use native.Mathlib.Nat.{le-of-eq, le-of-lt, le-trans, mul-pos, mul-le-mul-right, div-mul-le-self, lt-div-mul-add, not-le-of-lt}
+use native.Mathlib.Nat.{le-of-eq, le-of-lt, mul-pos, mul-le-mul-right, div-mul-le-self, lt-div-mul-add, not-le-of-lt}
 use native.Mathlib.Omega.{arith}
 use borrow.Author.Tests.{ltb-true, ltb-false}
-use lib.Dec.{T, leb, ltb, leb→le, le→leb, lit<, not-T}
+use lib.Dec.{T, ltb, leb→le, le→leb, lit<, not-T}
 use lib.IntN.{ℤ}
 use Rattle.whole.specs.Parts.{up, dn}
 use Rattle.whole.proofs.Tidy.{tidy}
 use Rattle.rules.specs.Choice.{choose}
 use Rattle.rules.specs.Fraction.{Fraction, ratio, integer, _*ℚ_, Versus, VersusPower}
 use Rattle.rules.specs.Curve.{Curve, logC4, logC3, Constants, base, exponent, less, factor, border, inToe, toeValue}
-use Rattle.rules.specs.Exact.{Scale, signal, powerFor, VersusPart, VersusExact}
+use Rattle.rules.specs.Exact.{Scale, powerFor, VersusPart, VersusExact}
 use Rattle.rules.specs.Decoding.{AtMost, AtLeast}
 use Rattle.rules.specs.Decoding as decoding
 use Rattle.rules.proofs.Values as values
@@ -23,12 +23,12 @@ use Rattle.power.specs.Power.{Below, below, Above, above}
 use Rattle.power.proofs.Interval.{below-mul, above-mul, below-le, above-le, below-raise, above-raise, below-root, above-root}
 use Rattle.power.proofs.Rows.{In, in-mul}
 use Rattle.table.specs.Table.{lift, fine}
-use Rattle.curve.specs.Decoded.{offset, product, powerRaw, rawBy, decoderOf, firstOf, toeOf, overOf}
+use Rattle.curve.specs.Decoded.{offset, product, rawBy, decoderOf, firstOf, toeOf, overOf}
 use Rattle.curve.proofs.Cleared.{exponentAt}
 use Rattle.curve.proofs.Tests.{Source, slack, nth, passes, every, tests, b, by, q, times, kappa, plus-less, minus-less, begin, entry, unit, first, bias}
 use Rattle.curve.proofs.Law as law
 use Rattle.curve.proofs.Right.{raw-toe, raw-power, passed, failed, room, divisor}
-use Rattle.curve.proofs.Compare.{lift-pos, wanted, wanted-is, lifted-ok, by-rules}
+use Rattle.curve.proofs.Compare.{wanted, wanted-is, lifted-ok, by-rules}
 use Rattle.encode.proofs.Sums.{half-le, half-ge, half-toe-le, half-toe-ge, power-le, power-ge}
 use Rattle.encode.proofs.ThirdTests.{third, twoThirds, wide, added, taken, underProduct, overProduct, underValue, overValue, signalAt, underTwoThirds, overThird, spare-up, spare-down, borderTests, thirdTests, third-low, third-high, apart-up, apart-down, thirds-up, thirds-down, borders, toe-apart, border-up, border-down}
 

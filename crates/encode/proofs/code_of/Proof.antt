@@ -1,16 +1,12 @@
 -- `code_of` meets its contract: what is below every number has code 0, and the search finds the others.
 -- Assumes nothing.
-use mathlib.Core.Bool.{true, false}
-use mathlib.Core.Path.{_≡_}
-use Prim.Native.Nat.{_+_, _≤_, _<_}
+use Prim.Native.Nat.{_+_, _≤_}
 use native.Mathlib.Omega.{arith}
 use borrow.Author.Needs.{needs}
-use lib.IntN.{ℤ, negsuc}
-use lib.Signed.{ltZ}
 use mir.Syntax.{w64}
 use mir.Val.{SFits}
 use Rattle.whole.specs.Parts.{up, dn}
-use Rattle.whole.proofs.Reflect.{at, leN-of, ltN-of}
+use Rattle.whole.proofs.Reflect.{at}
 use Rattle.whole.proofs.Words.{read-back}
 use Rattle.rules.specs.Setting.{topOf}
 use Rattle.curve.specs.Decoded.{offset, raw}
@@ -20,10 +16,6 @@ use Rattle.encode.proofs.Codes.{scene-passed, rising, code-is}
 use Rattle.encode.proofs.Shifted as shifted
 use Rattle.encode.proofs.code_of.Statement.{statement}
 use Rattle.encode.proofs.code_of.Tie as tie
-use Rattle.encode.proofs.code_of.Reads as reads
-use Rattle.encode.proofs.code_of.Lts as lts
-use Rattle.encode.proofs.find.Reads as find-reads
-use Rattle.setting.proofs.top_code.Reads as top-code-reads
 
 -- the number fits a word
 fits : (c : tie.After-struct-told) → SFits w64 (c .before .args .x .0)
