@@ -39,26 +39,30 @@ fn at_log(z: u64, slope: u64, plus: u64, minus: u64, top: u64) -> u64
     (signal - minus) * top / 100000000000
 }
 
-// In the power part the signal is a line in the logarithm of factor * number + b: at the scale 2^40, factor * y - less.
-fn in_power(s: Setting, top: u64, y: u64) -> u64
+// Curve 3: t = c * log10(a * x + b) + d, where z is 2^40 * (a * x + b): a * 2^16 is 364089, that times the offset 381774987264, and
+// 2^40 / 10^6 is 1099512; log10(2) is 0.30103, and 40 times that 12.0412.
+fn log_c3(k: Curve, top: u64, y: u64) -> u64
     requires { ⌜ (top < 2 ^ 16) × (y < 2 ^ 33) ⌝ }
 {
-    if s.curve == 3 {
-        let k = Curve::log_c3(s.ei);
-        let c = k.c % 524288;
-        let z = 364089 * y;
-        let less = 381774987264 - 1099512 * (k.b % 131072);
-        if z < less {
-            return 0;
-        }
-        return at_log(
-            z - less,
-            30103 * c,
-            100000 * (k.d % 524288),
-            1204120 * c,
-            top,
-        );
+    let c = k.c % 524288;
+    let z = 364089 * y;
+    let less = 381774987264 - 1099512 * (k.b % 131072);
+    if z < less {
+        return 0;
     }
+    at_log(
+        z - less,
+        30103 * c,
+        100000 * (k.d % 524288),
+        1204120 * c,
+        top,
+    )
+}
+
+// Curve 4: t = (95 + 928 * (P - 6) / 14) / 1023, where 2^P is x * 1747520 / 783 + 64, and z is 2^40 * 2^P.
+fn log_c4(top: u64, y: u64) -> u64
+    requires { ⌜ (top < 2 ^ 16) × (y < 2 ^ 33) ⌝ }
+{
     let z = 146264969 * y;
     if z < 83001191956480 {
         return 0;
@@ -78,7 +82,7 @@ fn in_toe(d: Decoder, y: u64) -> u64
     (rise - toe) / 33554432000000
 }
 
-// A guess at the code of y.
+// The code of y, but for some codes. (The numbers of the toe are below 2^21, and all are below 2^33.)
 fn guess(s: Setting, d: Decoder, top: u64, y: u64) -> u64
     requires { ⌜ top < 2 ^ 16 ⌝ }
 {
@@ -88,10 +92,14 @@ fn guess(s: Setting, d: Decoder, top: u64, y: u64) -> u64
             return n;
         }
     }
-    if y < 8589934592 {
-        return in_power(s, top, y);
+    if 8589934592 <= y {
+        return top;
     }
-    top
+    if s.curve == 3 {
+        log_c3(Curve::log_c3(s.ei), top, y)
+    } else {
+        log_c4(top, y)
+    }
 }
 
 // ---- The search.
