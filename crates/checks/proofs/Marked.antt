@@ -1,23 +1,36 @@
 -- The marked checks hold.
 -- Assumes nothing.
 use mathlib.Core.Bool.{Bool, true, false}
+use mathlib.Core.List.{List}
 use mathlib.Core.Logic.{_⊎_, inl, inr}
-use mathlib.Core.Path.{_≡_, refl, ap, subst}
+use mathlib.Core.Path.{_≡_, refl, ap, _∙_, subst}
 use Prim.Native.Nat.{ℕ, zero, suc, _+_, _-_, _*_, _^_, _≤_, _<_}
+use native.Mathlib.Nat.{le-refl}
 use native.Mathlib.Omega.{arith}
 use borrow.Author.Tests.{eqb-true, eqb-false}
 use lib.Dec.{eqb, lit<}
-use lib.IntN.{ℤ, pos, negsuc}
+use lib.IntN.{ℤ, pos, negsuc, subℕ}
+use lib.ListN.{length}
+use lib.Signed.{_≤ℤ_}
 use Rattle.whole.specs.Parts.{up, dn}
-use Rattle.whole.proofs.Reflect.{one-zero}
+use Rattle.whole.proofs.Reflect.{one-zero, at, leZ-of, sub-dif}
 use Rattle.whole.proofs.Tidy.{tidy}
 use Rattle.rules.specs.Fraction.{Fraction, whole, ratio, integer, _+ℚ_, _-ℚ_, _*ℚ_, VersusPower}
-use Rattle.rules.specs.Setting.{settingCheck}
+use Rattle.rules.specs.declared.Setting.{Setting}
+use Rattle.rules.specs.Setting.{settingCheck, topOf, Valid}
 use Rattle.rules.specs.Curve.{logC4, exponent}
 use Rattle.rules.specs.Exact.{Scale, signal, scaleOf, powerFor, VersusPart}
 use Rattle.rules.specs.Decoding.{Less, Greater, Decodes, DecodesPart, nearness, unit}
+use Rattle.rules.specs.Encoding.{IsNearest, sceneCheck}
 use Rattle.rules.proofs.Values as values
-use Rattle.checks.specs.Marked.{Marked, setting}
+use Rattle.rules.specs.declared.Answer.the-variants.{Refused}
+use Rattle.rules.specs.declared.Refusal.the-variants.{PartialRecord}
+use Rattle.rules.specs.Strip.{answerOf}
+use Rattle.curve.specs.Decoded.{offset, raw, decoded}
+use Rattle.curve.proofs.Limit.{raw-limited}
+use Rattle.encode.proofs.Theorems.{nearest-only, encoded-last}
+use Rattle.strip.specs.Conversions.{pixelToScene}
+use Rattle.checks.specs.Marked.{Marked, setting, limit}
 
 abbrev curve4 : Scale
 curve4 = scaleOf (setting 4 12 0)
@@ -58,9 +71,19 @@ code-0 y (DecodesPart.toe e) = e
 code-100 : (y : ℤ) → Decodes (scaleOf (setting 3 12 800)) 100 y → y ≡ negsuc 213757
 code-100 y (DecodesPart.toe e) = e
 
+scene-limit : (s : Setting) → Valid s → (n : ℕ) → IsNearest (decoded s) (topOf (s .width)) (pos limit) n → n ≡ topOf (s .width)
+scene-limit s v n i = nearest-only s (pos limit) n i ∙ encoded-last s v (pos limit) (not-above (raw s (topOf (s .width))) (raw-limited s v (topOf (s .width)) (le-refl _)))
+  where
+    not-above : (u : ℕ) → u ≤ limit → subℕ u offset ≤ℤ pos (2 ^ 40)
+    not-above u h = leZ-of (at (subℕ u offset)) (at (pos limit)) (omega (arith, sub-dif u offset))
+
+eleven-bytes : (input output : List ℕ) → length input ≡ 11 → answerOf pixelToScene input output ≡ Refused PartialRecord 0
+unfolding answerOf
+eleven-bytes input output e = rw e
+
 -- THE LIST
 pub marked : Marked
-unfolding settingCheck
+unfolding settingCheck sceneCheck
 marked =
     record {
       code-4095 = code-4095;
@@ -73,4 +96,9 @@ marked =
       ei-2000 = refl;
       code-1023 = refl;
       code-1024 = refl;
+      partial-record = refl;
+      eleven-bytes = eleven-bytes;
+      scene-limit = scene-limit;
+      scene-limit-passes = refl;
+      scene-past-limit = refl;
     }

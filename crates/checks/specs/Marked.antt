@@ -2,20 +2,32 @@
 -- Assumes nothing.
 use mathlib.Core.Bool.{true, false}
 use mathlib.Core.Path.{_≡_}
+use mathlib.Core.List.{List}
 use mathlib.Core.Logic.{_⊎_}
-use Prim.Native.Nat.{ℕ}
+use Prim.Native.Nat.{ℕ, _+_, _^_}
 use lib.IntN.{ℤ, pos, negsuc}
+use lib.ListN.{length}
+use Rattle.rules.specs.declared.Answer.the-variants.{Refused}
 use Rattle.rules.specs.declared.Check.the-variants.{Passed}
+use Rattle.rules.specs.declared.Refusal.the-variants.{PartialRecord}
 use Rattle.rules.specs.declared.Setting.{Setting}
 use Rattle.rules.specs.Fraction.{ratio, whole}
-use Rattle.rules.specs.Refusal.{then, numberOfCheck}
+use Rattle.rules.specs.Refusal.{then, numberOf, numberOfCheck}
 use Rattle.rules.specs.Curve.{inToe}
-use Rattle.rules.specs.Setting.{settingCheck, codeCheck, curveOf}
+use Rattle.rules.specs.Setting.{settingCheck, codeCheck, curveOf, topOf, Valid}
 use Rattle.rules.specs.Exact.{signal, scaleOf, VersusExact}
 use Rattle.rules.specs.Decoding.{Decodes}
+use Rattle.rules.specs.Encoding.{IsNearest, sceneCheck}
+use Rattle.rules.specs.Strip.{answerOf}
+use Rattle.curve.specs.Decoded.{decoded}
+use Rattle.strip.specs.Conversions.{pixelToScene}
 
 abbrev pub setting : (curve width ei : ℕ) → Setting
 setting curve width ei = record { curve = curve; width = width; ei = ei }
+
+-- the highest scene number to encode
+abbrev pub limit : ℕ
+limit = 2 ^ 40
 
 pub record Marked : Type 0 where
   -- "curve 4, width 12, code 4095 is exactly 2349/5,
@@ -36,3 +48,10 @@ pub record Marked : Type 0 where
   -- "Curve 3, width 10, EI 800: 1023 passes, 1024 gives 6."
   pub code-1023 : then (settingCheck (setting 3 10 800)) (codeCheck (setting 3 10 800) 1023) ≡ Passed
   pub code-1024 : numberOfCheck (then (settingCheck (setting 3 10 800)) (codeCheck (setting 3 10 800) 1024)) ≡ 6
+  -- "Eleven bytes of pixel records: 1."
+  pub partial-record : numberOf PartialRecord ≡ 1
+  pub eleven-bytes : (input output : List ℕ) → length input ≡ 11 → answerOf pixelToScene input output ≡ Refused PartialRecord 0
+  -- "Scene 2^40 gives top, one more gives 7." (of every setting)
+  pub scene-limit : (s : Setting) → Valid s → (n : ℕ) → IsNearest (decoded s) (topOf (s .width)) (pos limit) n → n ≡ topOf (s .width)
+  pub scene-limit-passes : sceneCheck (pos limit) ≡ Passed
+  pub scene-past-limit : numberOfCheck (sceneCheck (pos (limit + 1))) ≡ 7

@@ -11,7 +11,7 @@ use lib.ListN.{length, getD, take, drop}
 use lib.Seq.{getD-take, getD-drop}
 use Rattle.rules.specs.Exact.{Scale}
 use Rattle.power.specs.Power.{Below, Above}
-use Rattle.power.proofs.Interval.{below-mul, cross, below-up}
+use Rattle.power.proofs.Interval.{below-mul, above-mul, cross, below-up}
 use Rattle.power.proofs.Certificate.{below-by, above-by}
 use Rattle.power.proofs.Rows.{In, in-one, in-at, in-squares, in-high, row-at}
 use Rattle.table.specs.Table.{fine}
@@ -51,7 +51,7 @@ module _ (k : Scale) (top : ℕ) (t : List ℕ) (s : Source) (ok : T (every (tes
   q-nonzero = λ e. ne-of-gt q-pos e
 
   -- ---- the seeds
-  ratio : In (b k) (q k) (by k) (s .ratio) (s .ratio + slack) fine
+  pub ratio : In (b k) (q k) (by k) (s .ratio) (s .ratio + slack) fine
   unfolding nth
   ratio =
       record {
@@ -155,20 +155,35 @@ module _ (k : Scale) (top : ℕ) (t : List ℕ) (s : Source) (ok : T (every (tes
       above-five f g = omega arith
 
   -- the next code's product
+  next-exponent : (n : ℕ) → begin k + (n + 1) * by k ≡ begin k + n * by k + by k
+  next-exponent n = omega arith
+
+  in-next : (n : ℕ) → n < top → In (b k) (q k) (begin k + n * by k + by k) (entry k * product t (n + 1)) (entry k * (product t (n + 1) + 5)) (unit k)
+  in-next n h = in-at (begin k + n * by k + by k) (next-exponent n) (law (n + 1) (one-more top h))
+    where
+      one-more : (m : ℕ) → n < m → n + 1 ≤ m
+      one-more m h = omega arith
+
   pub next-low : (n : ℕ) → n < top → product t n * s .ratio ≤ (product t (n + 1) + 5) * fine
   next-low n h =
       cancel (entry k) (unit k) (product t n * s .ratio) (product t (n + 1) + 5) fine cancel-pos
       (cross q-nonzero (below-mul (entry k * (product t n * s .ratio)) (unit k * fine) (mul-pos unit-pos (lit< tt)) (le-of-eq (sort (entry k) (product t n) (s .ratio) (unit k * fine))) (law n (le-of-lt h) .lower) (ratio .lower))
-      (in-at (begin k + n * by k + by k) (next (begin k) (by k)) (law (n + 1) (one-more top h)) .upper))
+      (in-next n h .upper))
     where
       sort : (c v l w : ℕ) → c * (v * l) * w ≡ c * v * l * w
       sort c v l w = omega arith
 
-      one-more : (m : ℕ) → n < m → n + 1 ≤ m
-      one-more m h = omega arith
-
-      next : (m a : ℕ) → m + (n + 1) * a ≡ m + n * a + a
-      next m a = omega arith
-
       cancel : (c u x y w : ℕ) → 0 < c * u → c * x * u ≤ c * y * (u * w) → x ≤ y * w
+      cancel c u x y w p h = le-of-mul-le-mul-right {k = c * u} (le-trans (le-of-eq (simp (mul-assoc, mul-comm, mul-left-comm))) (le-trans h (le-of-eq (simp (mul-assoc, mul-comm, mul-left-comm))))) p
+
+  pub next-high : (n : ℕ) → n < top → product t (n + 1) * fine ≤ (product t n + 5) * (s .ratio + slack)
+  next-high n h =
+      cancel (entry k) (unit k) (product t (n + 1)) ((product t n + 5) * (s .ratio + slack)) fine cancel-pos
+      (cross q-nonzero (in-next n h .lower)
+      (above-mul (entry k * ((product t n + 5) * (s .ratio + slack))) (unit k * fine) (mul-pos unit-pos (lit< tt)) (le-of-eq (sort (entry k) (product t n + 5) (s .ratio + slack) (unit k * fine))) (law n (le-of-lt h) .upper) (ratio .upper)))
+    where
+      sort : (c v l w : ℕ) → c * v * l * w ≡ c * (v * l) * w
+      sort c v l w = omega arith
+
+      cancel : (c u x y w : ℕ) → 0 < c * u → c * x * (u * w) ≤ c * y * u → x * w ≤ y
       cancel c u x y w p h = le-of-mul-le-mul-right {k = c * u} (le-trans (le-of-eq (simp (mul-assoc, mul-comm, mul-left-comm))) (le-trans h (le-of-eq (simp (mul-assoc, mul-comm, mul-left-comm))))) p

@@ -1,6 +1,7 @@
 pub mod Cleared
 pub mod Tests
 pub mod Law
+pub mod Compare
 pub mod Near
 pub mod Toe
 pub mod Right

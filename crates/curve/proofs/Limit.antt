@@ -28,7 +28,7 @@ top-limited : (s : Setting) → Valid s → raw s (topOf (s .width)) ≤ 2 ^ 40
 top-limited s v =
     leb→le (raw s (topOf (s .width))) (2 ^ 40) (for-valid (λ c w e. leb (raw (record { curve = c; width = w; ei = e }) (topOf w)) (2 ^ 40)) all-limited s v)
 
-raw-limited : (s : Setting) → Valid s → (n : ℕ) → n ≤ topOf (s .width) → raw s n ≤ 2 ^ 40
+pub raw-limited : (s : Setting) → Valid s → (n : ℕ) → n ≤ topOf (s .width) → raw s n ≤ 2 ^ 40
 raw-limited s v n h = go (ltb n (topOf (s .width))) refl
   where
     go : (x : Bool) → ltb n (topOf (s .width)) ≡ x → raw s n ≤ 2 ^ 40

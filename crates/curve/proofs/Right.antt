@@ -23,19 +23,19 @@ use Rattle.curve.proofs.Near.{below-exact, above-exact}
 use Rattle.curve.proofs.Toe.{toe-code, power-code, toe-number}
 
 -- ---- which part
-raw-toe : (d : Decoder) (t : List ℕ) (n : ℕ) → n < d .first → rawBy d t n ≡ toeRaw d n
+pub raw-toe : (d : Decoder) (t : List ℕ) (n : ℕ) → n < d .first → rawBy d t n ≡ toeRaw d n
 unfolding rawBy
 raw-toe d t n h = rw (lt-ltb n (d .first) h)
 
-raw-power : (d : Decoder) (t : List ℕ) (n : ℕ) → d .first ≤ n → rawBy d t n ≡ powerRaw d t n
+pub raw-power : (d : Decoder) (t : List ℕ) (n : ℕ) → d .first ≤ n → rawBy d t n ≡ powerRaw d t n
 unfolding rawBy
 raw-power d t n h = rw (le-ltb n (d .first) h)
 
-passed : (x : Bool) → T x → x ≡ true
+pub passed : (x : Bool) → T x → x ≡ true
 passed true h = refl
 passed false h = absurd h
 
-failed : (x : Bool) → T (not x) → x ≡ false
+pub failed : (x : Bool) → T (not x) → x ≡ false
 failed true h = absurd h
 failed false h = refl
 
@@ -93,7 +93,7 @@ module _ (c : Constants) (start span top : ℕ) (t : List ℕ) (s : Source) (ok 
   toe-test : (i : ℕ) → T (nth (toeTests (logC3 c) start span t) i)
   toe-test i = passes (toeTests (logC3 c) start span t) (toe-ok (logC3 c) start span top t s ok) i
 
-  room : 2 ^ 25 * (1000000 * start + c .f * span) ≤ c .e * span * (2 * offset + 1)
+  pub room : 2 ^ 25 * (1000000 * start + c .f * span) ≤ c .e * span * (2 * offset + 1)
   unfolding nth
   room = leb→le (2 ^ 25 * (1000000 * start + c .f * span)) (c .e * span * (2 * offset + 1)) (toe-test toe-added)
 

@@ -1,8 +1,8 @@
 -- Of a valid setting: its numbers may be searched, and what lies between the half ways of a code has that code.
 -- Assumes nothing.
-use mathlib.Core.Bool.{Bool, true, false}
-use mathlib.Core.Path.{_≡_, refl, subst}
-use Prim.Native.Nat.{ℕ, _+_, _-_, _^_, _≤_, _<_}
+use mathlib.Core.Bool.{Bool, false}
+use mathlib.Core.Path.{_≡_}
+use Prim.Native.Nat.{ℕ, _-_, _^_, _≤_}
 use native.Mathlib.Omega.{arith}
 use lib.Dec.{T}
 use lib.IntN.{ℤ, pos, negsuc}
@@ -15,7 +15,7 @@ use Rattle.rules.specs.declared.Setting.{Setting}
 use Rattle.rules.specs.Choice.{choose}
 use Rattle.rules.specs.Setting.{topOf, Valid}
 use Rattle.rules.specs.Exact.{scaleOf}
-use Rattle.rules.specs.Encoding.{IsNearest, sceneCheck}
+use Rattle.rules.specs.Encoding.{sceneCheck}
 use Rattle.rules.proofs.Settings.{passed-only, first, others}
 use Rattle.rules.proofs.Closest.{closest-is-nearest, nearest-only}
 use Rattle.table.specs.Table.{tableOf}
@@ -25,7 +25,7 @@ use Rattle.curve.proofs.Fit.{fits}
 use Rattle.curve.proofs.Theorems.{raw-rises}
 use Rattle.encode.specs.Encoded.{encoded}
 use Rattle.encode.specs.Search.{Rising}
-use Rattle.encode.proofs.HalfWays.{Within, within-nearest, nearest-within}
+use Rattle.encode.proofs.HalfWays.{Within, within-nearest}
 
 -- a scene number that passes
 pub scene-passed : (x : ℤ) → sceneCheck x ≡ Passed → (up x ≤ 2 ^ 40) × (dn x ≤ 2 ^ 40)

@@ -3,10 +3,10 @@
 use mathlib.Core.Bool.{Bool, true, false}
 use mathlib.Core.Path.{_≡_, refl, ap}
 use Prim.Native.Nat.{ℕ, _+_, _-_, _*_, _≤_, _<_}
-use native.Mathlib.Nat.{le-of-eq, le-of-lt, le-of-suc-le-suc, lt-of-not-le, not-le-of-lt}
+use native.Mathlib.Nat.{le-refl, le-of-eq, le-of-lt, le-of-suc-le-suc, lt-of-not-le, not-le-of-lt}
 use native.Mathlib.Omega.{arith}
 use borrow.Author.Tests.{ltb-true, ltb-false}
-use lib.Dec.{ltb}
+use lib.Dec.{ltb, lit<}
 use lib.IntN.{ℤ, pos, negsuc, natAbs, subℕ, _-ℤ_}
 use Rattle.whole.specs.Parts.{up, dn}
 use Rattle.whole.proofs.Reflect.{at, sub, dif, one-zero, sub-dif}
@@ -91,19 +91,27 @@ module _ (u : ℕ → ℕ) (top : ℕ) (rises : (m n : ℕ) → m < n → n ≤ 
         below = λ h. before-half x (u n) (u (n + 1)) (rises n (n + 1) (omega arith) (omega arith)) (i .nearest (n + 1) (omega arith));
       }
 
--- the number of a code itself
-pub own-within : (u : ℕ → ℕ) (top : ℕ) → ((m n : ℕ) → m < n → n ≤ top → u m < u n) → (n : ℕ) → n ≤ top → Within u top (subℕ (u n) offset) n
-own-within u top rises n h =
-    record {
-      in-range = h;
-      above = λ m e. omega (arith, sub-dif (u n) offset, rises m n (omega arith) h);
-      below = λ g. omega (arith, sub-dif (u n) offset, rises n (n + 1) (omega arith) (omega arith));
-    }
+-- ---- which numbers have a code
+module _ (u : ℕ → ℕ) (top : ℕ) (rises : (m n : ℕ) → m < n → n ≤ top → u m < u n) where
+  -- the number of the code itself
+  pub own-within : (n : ℕ) → n ≤ top → Within u top (subℕ (u n) offset) n
+  own-within n h =
+      record {
+        in-range = h;
+        above = λ m e. omega (arith, sub-dif (u n) offset, rises m n (omega arith) h);
+        below = λ g. omega (arith, sub-dif (u n) offset, rises n (n + 1) (omega arith) (omega arith));
+      }
 
--- ---- what a search finds: y is x with the offset, or x is so low that no number y is
+  -- what is not above the number of code 0, and what is not below that of the top code
+  pub first-within : (x : ℤ) → up x + offset ≤ u 0 + dn x → Within u top x 0
+  first-within x h =
+      record { in-range = omega arith; above = λ m e. absurd (omega arith); below = λ g. omega (arith, rises 0 1 (lit< tt) g) }
+
+  pub last-within : (x : ℤ) → u top + dn x ≤ up x + offset → Within u top x top
+  last-within x h =
+      record { in-range = le-refl top; above = λ m e. omega (arith, rises m top (omega arith) (le-refl top)); below = λ g. absurd (omega arith) }
+
+-- what a search finds, where y is x with the offset
 pub found-within : (u : ℕ → ℕ) (top : ℕ) (x : ℤ) (y n : ℕ) → up x + offset ≡ y + dn x → Found u top y n → Within u top x n
 found-within u top x y n e f =
     record { in-range = f .in-range; above = λ m g. omega (arith, f .above m g); below = λ h. omega (arith, f .below h) }
-
-pub lowest-within : (u : ℕ → ℕ) (top : ℕ) (x : ℤ) → up x + offset ≤ dn x → Within u top x 0
-lowest-within u top x h = record { in-range = omega arith; above = λ m e. absurd (omega arith); below = λ g. omega arith }

@@ -1,5 +1,9 @@
-mod Search
+mod Interval
 mod HalfWays
 mod Codes
 mod Shifted
+mod Sums
+mod ThirdTests
+mod Settings
+mod Thirds
 pub mod Theorems

@@ -1,13 +1,14 @@
 // Encoding: the code of a scene number.
 ghost use mathlib.Core.Path.{_≡_};
-ghost use Prim.Native.Nat.{_^_, _<_};
 ghost use Rattle.rules.specs.declared.Check.the-variants.{Passed};
 ghost use Rattle.rules.specs.Setting.{Valid};
 ghost use Rattle.rules.specs.Encoding.{sceneCheck};
-ghost use Rattle.curve.specs.Decoded.{rawBy};
-ghost use Rattle.encode.specs.Encoded.{encoded, Ready};
+ghost use Rattle.curve.specs.Ready.{Ready};
+ghost use Rattle.encode.specs.Encoded.{encoded};
 ghost use Rattle.encode.specs.Answer.{codeAfter, encodeAnswer};
-ghost use Rattle.encode.specs.Search.{Rising, Found};
+
+mod search;
+
 use curve::decoder::Decoder;
 use rules::Check;
 use rules::Code;
@@ -39,31 +40,6 @@ pub fn check_scene(x: Scene) -> Check
     }
 }
 
-// The code whose number is nearest to y, which has the offset: an interval of codes is halved until its ends are neighbours.
-fn find(d: Decoder, t: &[u64; 128], top: u64, y: u64) -> u64
-    requires { ⌜ Rising d (now t) top ⌝ }
-    requires { ⌜ y < 2 ^ 62 ⌝ }
-    ensures { λ r. ⌜ Found (rawBy d (now (t .entry))) top y r ⌝ }
-{
-    let mut low: u64 = 0;
-    let mut high = top + 1;
-    while low + 1 < high {
-        let middle = low + (high - low) / 2;
-        if d.raw(t, middle) < y {
-            low = middle;
-        } else {
-            high = middle;
-        }
-    }
-    if top < high {
-        return low;
-    }
-    if d.raw(t, low) + d.raw(t, high) < 2 * y {
-        return high;
-    }
-    low
-}
-
 // The code of a scene number.
 pub fn code_of(s: Setting, d: Decoder, t: &[u64; 128], x: Scene) -> Code
     requires { ⌜ Ready s d (now t) ⌝ }
@@ -75,7 +51,7 @@ pub fn code_of(s: Setting, d: Decoder, t: &[u64; 128], x: Scene) -> Code
         return Code(0);
     }
     let top = setting::top_code(s) as u64;
-    Code(find(d, t, top, (number + OFFSET) as u64) as u16)
+    Code(search::find(s, d, t, top, (number + OFFSET) as u64) as u16)
 }
 
 fn encode_valid(s: Setting, x: Scene) -> Encoding

@@ -103,3 +103,40 @@ below-up {q = q} {s = s} k p h (below f) = below (le-trans f (mul-le-mul-right (
 
 pub above-down : {b q m x s : ℕ} (k : ℕ) → zero < b → k ≤ m → Above b q m x s → Above b q k x s
 above-down {q = q} {s = s} k p h (above f) = above (le-trans (mul-le-mul-right (s ^ q) (pow-le-pow-right p h)) f)
+
+-- the same exponent over a larger denominator
+raised : (b q m s r : ℕ) → (b ^ m * s ^ q) ^ r ≡ b ^ (m * r) * s ^ (q * r)
+raised b q m s r = mul-pow (b ^ m) (s ^ q) r ∙ ap₂ (λ (u w : ℕ). u * w) (sym (pow-mul b m r)) (sym (pow-mul s q r))
+
+pub below-raise : {b q m x s : ℕ} (r : ℕ) → Below b q m x s → Below b (q * r) (m * r) x s
+below-raise {b} {q} {m} {x} {s} r (below f) =
+    below (le-trans (le-of-eq (pow-mul x q r)) (le-trans (pow-le-pow-left f r) (le-of-eq (raised b q m s r))))
+
+pub above-raise : {b q m x s : ℕ} (r : ℕ) → Above b q m x s → Above b (q * r) (m * r) x s
+above-raise {b} {q} {m} {x} {s} r (above f) =
+    above (le-trans (le-of-eq (sym (raised b q m s r))) (le-trans (pow-le-pow-left f r) (le-of-eq (sym (pow-mul x q r)))))
+
+-- a root: y / s, whose r-th power is at most x / s, and at least
+rooted : (y s q r : ℕ) → (y ^ r * s) ^ q ≡ y ^ (q * r) * s ^ q
+rooted y s q r = mul-pow (y ^ r) s q ∙ ap (λ (w : ℕ). w * s ^ q) (sym (pow-mul y r q) ∙ ap (λ (w : ℕ). y ^ w) (mul-comm r q))
+
+spread : (x s q r : ℕ) → (x * s ^ r) ^ q ≡ x ^ q * s ^ (q * r)
+spread x s q r = ap (λ (w : ℕ). w ^ q) (mul-comm x (s ^ r)) ∙ mul-pow (s ^ r) x q ∙ mul-comm ((s ^ r) ^ q) (x ^ q) ∙ ap (λ (w : ℕ). x ^ q * w) (sym (pow-mul s r q) ∙ ap (λ (w : ℕ). s ^ w) (mul-comm r q))
+
+pub below-root : {b q m x s : ℕ} (r y : ℕ) → zero < s → y ^ r * s ≤ x * s ^ r → Below b q m x s → Below b (q * r) m y s
+below-root {b} {q} {m} {x} {s} r y p h (below f) =
+    below (le-of-mul-le-mul-right {k = s ^ q}
+    (le-trans (le-of-eq (sym (rooted y s q r)))
+    (le-trans (pow-le-pow-left h q)
+    (le-trans (le-of-eq (spread x s q r))
+    (le-trans (mul-le-mul-right (s ^ (q * r)) f) (le-of-eq (simp (mul-assoc, mul-comm, mul-left-comm)))))))
+    (one-le-pow q s p))
+
+pub above-root : {b q m x s : ℕ} (r y : ℕ) → zero < s → x * s ^ r ≤ y ^ r * s → Above b q m x s → Above b (q * r) m y s
+above-root {b} {q} {m} {x} {s} r y p h (above f) =
+    above (le-of-mul-le-mul-right {k = s ^ q}
+    (le-trans (le-of-eq (simp (mul-assoc, mul-comm, mul-left-comm)))
+    (le-trans (mul-le-mul-right (s ^ (q * r)) f)
+    (le-trans (le-of-eq (sym (spread x s q r)))
+    (le-trans (pow-le-pow-left h q) (le-of-eq (rooted y s q r))))))
+    (one-le-pow q s p))

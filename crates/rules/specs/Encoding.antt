@@ -1,6 +1,6 @@
 -- 01, "Encoding": the code of a scene number.
 -- Assumes nothing.
-use mathlib.Core.Bool.{Bool, true, false}
+use mathlib.Core.Bool.{false}
 use Prim.Native.Nat.{ℕ, zero, suc, _+_, _-_, _*_, _^_, _≤_, _<_}
 use lib.Dec.{ltb}
 use lib.IntN.{ℤ, pos, negsuc, natAbs, _-ℤ_}
@@ -8,7 +8,7 @@ use lib.Signed.{leZ}
 use Rattle.rules.specs.declared.Check.{Check}
 use Rattle.rules.specs.declared.Refusal.the-variants.{SceneOutOfRange}
 use Rattle.rules.specs.Choice.{choose}
-use Rattle.rules.specs.Fraction.{Fraction, ratio, integer, _*ℚ_}
+use Rattle.rules.specs.Fraction.{ratio, integer, _*ℚ_}
 use Rattle.rules.specs.Setting.{refuseUnless}
 use Rattle.rules.specs.Exact.{Scale, VersusExact}
 use Rattle.rules.specs.Decoding.{unit, AtMost, AtLeast}

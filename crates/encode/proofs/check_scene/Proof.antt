@@ -1,6 +1,6 @@
 -- `check_scene` meets its contract.
 -- Assumes nothing.
-use mathlib.Core.Bool.{true, false}
+use mathlib.Core.Bool.{true}
 use mathlib.Core.Logic.{⊎-elim}
 use mathlib.Core.Path.{_≡_}
 use Prim.Native.Nat.{_-_, _^_}
@@ -13,8 +13,6 @@ use Rattle.whole.proofs.Words.{read-back}
 use Rattle.rules.specs.Encoding.{sceneCheck}
 use Rattle.encode.proofs.check_scene.Statement.{statement}
 use Rattle.encode.proofs.check_scene.Tie as tie
-use Rattle.encode.proofs.check_scene.Reads as reads
-use Rattle.encode.proofs.check_scene.Lts as lts
 
 -- the number fits a word
 fits : (c : tie.After-struct-told) → SFits w64 (c .before .args .x .0)

@@ -1,27 +1,20 @@
 -- `code_of` meets its contract: what is below every number has code 0, and the search finds the others.
 -- Assumes nothing.
-use mathlib.Core.Bool.{true, false}
-use mathlib.Core.Path.{_≡_}
-use Prim.Native.Nat.{_+_, _≤_, _<_}
+use Prim.Native.Nat.{_+_, _^_, _≤_}
 use native.Mathlib.Omega.{arith}
 use borrow.Author.Needs.{needs}
-use lib.IntN.{ℤ, negsuc}
-use lib.Signed.{ltZ}
 use mir.Syntax.{w64}
 use mir.Val.{SFits}
 use Rattle.whole.specs.Parts.{up, dn}
-use Rattle.whole.proofs.Reflect.{at, leN-of, ltN-of}
 use Rattle.whole.proofs.Words.{read-back}
-use Rattle.curve.specs.Decoded.{offset}
-use Rattle.encode.proofs.HalfWays.{found-within, lowest-within}
+use Rattle.rules.specs.Setting.{topOf}
+use Rattle.curve.specs.Decoded.{offset, raw}
+use Rattle.curve.proofs.Theorems.{raw-rises}
+use Rattle.encode.proofs.HalfWays.{found-within, first-within}
 use Rattle.encode.proofs.Codes.{scene-passed, rising, code-is}
 use Rattle.encode.proofs.Shifted as shifted
 use Rattle.encode.proofs.code_of.Statement.{statement}
 use Rattle.encode.proofs.code_of.Tie as tie
-use Rattle.encode.proofs.code_of.Reads as reads
-use Rattle.encode.proofs.code_of.Lts as lts
-use Rattle.encode.proofs.find.Reads as find-reads
-use Rattle.setting.proofs.top_code.Reads as top-code-reads
 
 -- the number fits a word
 fits : (c : tie.After-struct-told) → SFits w64 (c .before .args .x .0)
@@ -33,26 +26,32 @@ below c = shifted.under (c .before .before .args .x .0) (rw (read-back (fits (c 
 above : (c : tie.Else1) → dn (c .before .before .args .x .0) ≤ up (c .before .before .args .x .0) + offset
 above c = shifted.not-under (c .before .before .args .x .0) (rw (read-back (fits (c .before))) at (c .if1 .left))
 
+high : (c : tie.Else1) → up (c .before .before .args .x .0) ≤ 2 ^ 40
+high c = scene-passed (c .before .before .args .x .0) (c .before .before .pre .1) .0
+
 returns : tie.Need-returns
-returns c = code-is (c .before .before .args .s) (c .before .before .pre .0 .valid) (c .before .before .args .x .0) 0 (lowest-within _ _ (c .before .before .args .x .0) (below c))
+returns c =
+    code-is (c .before .before .args .s) (c .before .before .pre .0 .valid) (c .before .before .args .x .0) 0
+    (first-within (raw (c .before .before .args .s)) (topOf (c .before .before .args .s .width)) (raw-rises (c .before .before .args .s) (c .before .before .pre .0 .valid))
+    (c .before .before .args .x .0) (omega (arith, below c)))
 
 add-find : tie.Need-add-find
-add-find c = shifted.add-fits (c .before .before .before .args .x .0) (fits (c .before .before)) (above (c .before)) (scene-passed (c .before .before .before .args .x .0) (c .before .before .before .pre .1) .0)
+add-find c = shifted.add-fits (c .before .before .before .args .x .0) (fits (c .before .before)) (above (c .before)) (high (c .before))
 
 cast-find : tie.Need-cast-find
-cast-find c = shifted.cast-fits (c .before .before .before .args .x .0) (fits (c .before .before)) (above (c .before)) (scene-passed (c .before .before .before .args .x .0) (c .before .before .before .pre .1) .0)
+cast-find c = shifted.cast-fits (c .before .before .before .args .x .0) (fits (c .before .before)) (above (c .before)) (high (c .before))
 
 find-requires : tie.Need-find-requires
 find-requires c κs = (
   rw (c .before .before .before .pre .0 .decoder, c .before .before .before .pre .0 .table, c .top-code .ensures) (rising (c .before .before .before .args .s) (c .before .before .before .pre .0 .valid)),
-  shifted.small (c .before .before .before .args .x .0) (fits (c .before .before)) (above (c .before)) (scene-passed (c .before .before .before .args .x .0) (c .before .before .before .pre .1) .0),
+  shifted.small (c .before .before .before .args .x .0) (fits (c .before .before)) (above (c .before)) (high (c .before)),
 )
 
 returns-2 : tie.Need-returns-2
 returns-2 c =
     code-is (c .before .before .before .before .args .s) (c .before .before .before .before .pre .0 .valid) (c .before .before .before .before .args .x .0) (c .find .result)
     (found-within _ _ (c .before .before .before .before .args .x .0) _ (c .find .result)
-    (shifted.shifted (c .before .before .before .before .args .x .0) (fits (c .before .before .before)) (above (c .before .before)) (scene-passed (c .before .before .before .before .args .x .0) (c .before .before .before .before .pre .1) .0))
+    (shifted.shifted (c .before .before .before .before .args .x .0) (fits (c .before .before .before)) (above (c .before .before)) (high (c .before .before)))
     (rw (c .before .before .before .before .pre .0 .decoder, c .before .before .before .before .pre .0 .table, c .before .top-code .ensures) at (c .find .ensures)))
 
 pub code-of-spec : {M : Type 1} → statement M

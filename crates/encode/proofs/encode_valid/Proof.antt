@@ -6,8 +6,6 @@ use borrow.Author.Needs.{needs}
 use Rattle.encode.specs.declared.Encoding.{Encoding}
 use Rattle.encode.proofs.encode_valid.Statement.{statement}
 use Rattle.encode.proofs.encode_valid.Tie as tie
-use Rattle.encode.proofs.encode_valid.Reads as reads
-use Rattle.encode.proofs.encode_valid.Lts as lts
 
 code-of-requires : tie.Need-code-of-requires
 code-of-requires c κs =

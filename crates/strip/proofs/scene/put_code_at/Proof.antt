@@ -12,7 +12,7 @@ use Rattle.strip.proofs.scene.put_code_at.Tie as tie
 code-of-requires : tie.Need-code-of-requires
 code-of-requires c κs =
     let p = c .before .before .before .pre in
-    (record { valid = p .0 .valid; decoder = p .0 .decoder; table = p .0 .table }, ap sceneCheck (read-back (record { sfits = c .long-at .ok }) ∙ c .long-at .ensures) ∙ p .1 .1 .0)
+    (p .0, ap sceneCheck (read-back (record { sfits = c .long-at .ok }) ∙ c .long-at .ensures) ∙ p .1 .1 .0)
 
 returns : tie.Need-returns
 returns c =

@@ -1,0 +1,24 @@
+-- Every valid setting passes the tests of the thirds.
+-- Assumes nothing.
+use mathlib.Core.Bool.{Bool}
+use lib.Dec.{T}
+use Rattle.rules.specs.declared.Setting.{Setting}
+use Rattle.rules.specs.Setting.{Valid}
+use Rattle.rules.specs.Exact.{scaleOf}
+use Rattle.rules.proofs.Settings.{forSettings, for-valid}
+use Rattle.table.specs.Table.{logC3Table, logC4Table, tableOf}
+use Rattle.curve.specs.Decoded.{rawBy}
+use Rattle.curve.proofs.Tests.{every}
+use Rattle.curve.proofs.Settings.{sourceOf}
+use Rattle.encode.proofs.ThirdTests.{thirdTests}
+
+abbrev test : Setting → Bool
+test s = every (thirdTests (scaleOf s) (tableOf s) (sourceOf s))
+
+-- computed for all the settings
+all-pass : T (forSettings (λ c w e. test (record { curve = c; width = w; ei = e })))
+unfolding tableOf logC3Table logC4Table rawBy
+all-pass = tt
+
+pub thirds-passed : (s : Setting) → Valid s → T (every (thirdTests (scaleOf s) (tableOf s) (sourceOf s)))
+thirds-passed s v = for-valid (λ c w e. test (record { curve = c; width = w; ei = e })) all-pass s v
