@@ -12,7 +12,7 @@ use Rattle.rules.specs.declared.Answer.{Answer}
 use Rattle.rules.specs.declared.Answer.the-variants.{Done, Refused}
 use Rattle.rules.specs.declared.Check.{Check}
 use Rattle.rules.specs.declared.Check as check
-use Rattle.rules.specs.Strip.{Conversion, recordCheck, records, written, orNext, scan, scanOf, answerOf, outputAfter}
+use Rattle.rules.specs.Strip.{Conversion, recordCheck, records, written, orNext, scan, scanOf, answerOf, outputAfter, Converts}
 use Rattle.strip.specs.Join.{moved, followed}
 use Rattle.strip.proofs.Cut.{written-append}
 
@@ -68,6 +68,15 @@ whole-answer c input output n p e room =
     let d : length input / c .from ≡ n = rw e (mul-div-cancel n p) in
     let z : length input % c .from ≡ 0 = rw e (mul-mod-left n (c .from)) in
     rw (eq-eqb _ 0 z, d, le-leb _ _ room)
+
+-- EMPTY INPUT succeeds with 0, and leaves the output as it was
+pub empty-input : (c : Conversion) (output : List ℕ) → 0 < c .from → Converts c [] output (Done 0) output
+unfolding scan records written outputAfter
+empty-input c output p =
+    record {
+      answers = sym (whole-answer c [] output 0 p (sym (zero-mul (c .from))) (rw zero-mul (omega arith)));
+      writes = rw zero-mul;
+    }
 
 module _ (c : Conversion) (p : 0 < c .from) (a b o₁ o₂ : List ℕ) (m n : ℕ) (ea : length a ≡ m * c .from) (eb : length b ≡ n * c .from)
     (e₁ : length o₁ ≡ m * c .to) (room : n * c .to ≤ length o₂) where
