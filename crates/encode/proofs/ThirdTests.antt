@@ -17,7 +17,7 @@ abbrev newton : (steps cube x : ℕ) → ℕ
 newton zero cube x = x
 newton (suc steps) cube x = newton steps cube ((2 * x + cube / (x * x)) / 3)
 
--- rounded down; with slack, it is rounded up
+-- rounded down, and with slack up (the first two tests show it)
 abbrev pub third : Source → ℕ
 third s = newton 4 (s .ratio * fine ^ 2) (fine + (s .ratio - fine) / 3) - 1
 
@@ -26,11 +26,13 @@ abbrev pub twoThirds : Source → ℕ
 twoThirds s = third s * third s / fine
 
 -- ---- half way from one number to another, whose sum, with the offset in each, is A
+
+-- a unit, at the scale of a product and of the seeds
 abbrev pub wide : ℕ
 wide = 2 ^ 29 * fine
 
 module _ (k : Scale) where
-  -- what is added to both sides of a comparison with the power part
+  -- what a comparison with the power part has besides: the curve's less, and the offset
   abbrev pub added : ℕ
   added = 2 * (2 ^ 24 * plus-less k * wide)
 
