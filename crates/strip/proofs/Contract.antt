@@ -1,15 +1,18 @@
 -- The conversion: the tests of the strips, the first pass, and the second.
 -- Assumes nothing.
-use mathlib.Core.Path.{_≡_, refl, sym, _∙_}
+use mathlib.Core.Path.{_≡_, refl, ap, sym, _∙_}
 use mathlib.Core.List.{List}
 use Prim.Native.Nat.{ℕ, _*_, _/_, _%_, _≤_, _<_}
+use native.Mathlib.Nat.{le-of-eq, zero-mul}
+use native.Mathlib.Omega.{arith}
 use borrow.Author.Tests.{eq-eqb, ne-eqb, le-leb, lt-leb}
 use lib.ListN.{length}
 use Rattle.rules.specs.declared.Answer.{Answer}
 use Rattle.rules.specs.declared.Answer.the-variants.{Done, Refused}
-use Rattle.rules.specs.declared.Refusal.{Refusal}
 use Rattle.rules.specs.declared.Refusal.the-variants.{PartialRecord, ShortOutput}
-use Rattle.rules.specs.Strip.{Conversion, scanOf, answerOf, outputAfter, Converts}
+use Rattle.rules.specs.Strip.{Conversion, records, written, scan, scanOf, answerOf, outputAfter, Converts}
+use Rattle.strip.specs.Writable.{writable}
+use Rattle.strip.proofs.FirstPass.{counted}
 
 module _ (c : Conversion) (input output : List ℕ) where
   pub not-whole : (length input % c .from ≡ 0 → ⊥) → Converts c input output (Refused PartialRecord 0) output
@@ -26,11 +29,22 @@ module _ (c : Conversion) (input output : List ℕ) where
     unfolding answerOf
     scan-answers = rw (eq-eqb _ 0 w, le-leb _ _ room) e
 
-    -- a record is refused: the output is as it was
-    pub refused : (why : Refusal) (k : ℕ) → a ≡ Refused why k → Converts c input output (Refused why k) output
-    unfolding outputAfter
-    refused why k h = record { answers = sym h ∙ scan-answers; writes = refl }
+    -- what is to be written passes
+    pub to-write : (m : ℕ) → m ≡ writable a → (m ≤ length input / c .from) × (Done m ≡ scanOf c m input)
+    unfolding scan records
+    to-write m h = go a e h
+      where
+        go : (x : Answer) → x ≡ scanOf c (length input / c .from) input → m ≡ writable x → (m ≤ length input / c .from) × (Done m ≡ scanOf c m input)
+        go (Done n) e h =
+            let q : m ≡ length input / c .from = h ∙ counted c (length input / c .from) input (Done n) n e refl in
+            (le-of-eq q, ap Done h ∙ e ∙ ap (λ (k : ℕ). scanOf c k input) (sym q))
+        go (Refused why k) e h = (rw h (omega arith), rw h)
 
-    -- none is refused: the output is what the second pass left
-    pub finished : (m : ℕ) (after : List ℕ) → a ≡ Done m → after ≡ outputAfter c input output (Done m) → Converts c input output (Done m) after
-    finished m after h p = record { answers = sym h ∙ scan-answers; writes = p }
+    -- the output is what the second pass left, or as it was
+    pub finished : (m : ℕ) (after : List ℕ) → m ≡ writable a → after ≡ outputAfter c input output (Done m) → Converts c input output a after
+    unfolding outputAfter written records
+    finished m after h p = record { answers = scan-answers; writes = go a h }
+      where
+        go : (x : Answer) → m ≡ writable x → after ≡ outputAfter c input output x
+        go (Done n) h = p ∙ ap (λ (k : ℕ). outputAfter c input output (Done k)) h
+        go (Refused why k) h = p ∙ ap (λ (k : ℕ). outputAfter c input output (Done k)) h ∙ rw zero-mul

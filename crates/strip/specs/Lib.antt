@@ -1,3 +1,4 @@
 pub mod Conversions
 pub mod Same
 pub mod Join
+pub mod Writable

@@ -10,6 +10,7 @@ ghost use Rattle.rules.specs.Strip.{Converts, recordCheck, scanOf, outputAfter}
 ghost use Rattle.curve.specs.Ready.{Ready};
 ghost use Rattle.strip.specs.Conversions.{pixelToScene, sceneToPixel, conversionOf};
 ghost use Rattle.strip.specs.Same.{Same};
+ghost use Rattle.strip.specs.Writable.{writable};
 
 mod pixel;
 mod scene;
@@ -142,6 +143,16 @@ fn write(k: Kind, input: &[u8], output: &mut [u8], n: usize)
     }
 }
 
+// How many records are written: all of them, or none where one is refused.
+fn to_write(a: Answer) -> usize
+    ensures { λ n. ⌜ n ≡ writable a ⌝ }
+{
+    match a {
+        Answer::Done(n) => n,
+        Answer::Refused(_, _) => 0,
+    }
+}
+
 fn convert(k: Kind, input: &[u8], output: &mut [u8]) -> Answer
     ensures { λ a. ⌜ Converts (conversionOf k) (now (input .entry)) (now (output .entry)) a (now (output .exit)) ⌝ }
 {
@@ -155,13 +166,8 @@ fn convert(k: Kind, input: &[u8], output: &mut [u8]) -> Answer
         return Answer::Refused(Refusal::ShortOutput, 0);
     }
     let scanned = scan(k, input, n);
-    match scanned {
-        Answer::Done(count) => {
-            write(k, input, output, count);
-            Answer::Done(count)
-        }
-        Answer::Refused(why, at) => Answer::Refused(why, at),
-    }
+    write(k, input, output, to_write(scanned));
+    scanned
 }
 
 // Decoding: a strip of pixel records to one of scene records.

@@ -2,13 +2,12 @@
 -- Assumes nothing.
 use mathlib.Core.Path.{_≡_, _∙_, sym, ap, subst}
 use native.Mathlib.Omega.{arith}
-use native.Mathlib.Nat.{le-div-iff-mul-le, div-lt-iff-lt-mul, div-mul-le-self}
+use native.Mathlib.Nat.{le-trans, mul-le-mul-right, le-div-iff-mul-le, div-lt-iff-lt-mul, div-mul-le-self}
 use denote.Ref.{now}
 use lib.ListN.{length}
 use Prim.Native.Nat.{ℕ, _*_, _/_, _%_, _≤_, _<_}
 use Rattle.rules.specs.Strip.{Conversion, Converts, scanOf}
-use Rattle.strip.proofs.Contract.{not-whole, too-short, refused, finished}
-use Rattle.strip.proofs.FirstPass.{counted}
+use Rattle.strip.proofs.Contract.{not-whole, too-short, to-write, finished}
 use Rattle.strip.specs.Conversions.{conversionOf}
 use borrow.Author.Needs.{needs}
 use Rattle.strip.proofs.convert.Statement.{statement}
@@ -47,18 +46,17 @@ scan-requires c κs = fits c
 
 write-requires : tie.Need-write-requires
 write-requires c κs =
-    let a = scans (c .before .before .before .before) in
-    let d = c .before .before .scanned .given .1 in
-    let h = counted (conversionOf (c .before .before .before .before .before .before .before .before .before .before .before .args .k)) _ _ _ _ a d in
-    ((rw (h, ← c .before .before .before .before .before .before .before .before .size-from .ensures .0) (div-mul-le-self _ _), rw h (room (c .before .before .before .before .before))), sym d ∙ a ∙ ap (λ (m : ℕ). scanOf (conversionOf (c .before .before .before .before .before .before .before .before .before .before .before .args .k)) m (now (c .before .before .before .before .before .before .before .before .before .before .before .args .input))) (sym h))
+    let k = conversionOf (c .before .before .before .before .before .before .before .before .before .args .k) in
+    let w = to-write k (now (c .before .before .before .before .before .before .before .before .before .args .input)) (now (c .before .before .before .before .before .before .before .before .before .args .output))
+    (whole (c .before .before .before .before)) (room (c .before .before .before)) _ (scans (c .before .before)) (c .to-write .result) (c .to-write .ensures) in
+    ((le-trans (mul-le-mul-right (k .from) (w .0)) (div-mul-le-self _ _), le-trans (mul-le-mul-right (k .to) (w .0)) (room (c .before .before .before))), w .1)
 
 returns-3 : tie.Need-returns-3
-returns-3 c = finished _ _ _ (whole (c .before .before .before .before .before .before .before .before .before)) (room (c .before .before .before .before .before .before .before .before)) _ (scans (c .before .before .before .before .before .before .before)) _ _ (c .before .before .before .before .before .scanned .given .1) (c .before .before .write .ensures)
-
-returns-4 : tie.Need-returns-4
-returns-4 c = refused _ _ _ (whole (c .before .before .before .before .before)) (room (c .before .before .before .before)) _ (scans (c .before .before .before)) _ _ (c .before .scanned2 .given .1)
+returns-3 c =
+    finished _ _ _ (whole (c .before .before .before .before .before .before .before)) (room (c .before .before .before .before .before .before)) _ (scans (c .before .before .before .before .before))
+    _ _ (c .before .before .before .to-write .ensures) (c .before .before .write .ensures)
 
 pub convert-spec : {M : Type 1} → statement M
 convert-spec =
     tie.close
-    (tie.spec (λ c κs. search needs) (λ c κs. search needs) (λ c. search needs) returns (λ c. search needs) (λ c. search needs) returns-2 scan-requires (λ c. search needs) write-requires (λ c. search needs) (λ c. search needs) returns-3 returns-4)
+    (tie.spec (λ c κs. search needs) (λ c κs. search needs) (λ c. search needs) returns (λ c. search needs) (λ c. search needs) returns-2 scan-requires (λ c κs. search needs) write-requires (λ c. search needs) returns-3)
