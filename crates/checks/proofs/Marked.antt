@@ -25,6 +25,7 @@ use Rattle.rules.specs.Encoding.{IsNearest, sceneCheck}
 use Rattle.rules.proofs.Values as values
 use Rattle.rules.specs.declared.Answer.the-variants.{Refused}
 use Rattle.rules.specs.declared.Refusal.the-variants.{PartialRecord}
+use Rattle.rules.specs.Matrix.{matrixOf, acesNumber, IsAces}
 use Rattle.rules.specs.Strip.{answerOf}
 use Rattle.curve.specs.Decoded.{offset, raw, decoded}
 use Rattle.curve.proofs.Limit.{raw-limited}
@@ -71,6 +72,11 @@ code-0 y (DecodesPart.toe e) = e
 code-100 : (y : ℤ) → Decodes (scaleOf (setting 3 12 800)) 100 y → y ≡ negsuc 213757
 code-100 y (DecodesPart.toe e) = e
 
+pixel-100 : (x y : ℤ) → Decodes (scaleOf (setting 3 12 800)) 100 x → Decodes (scaleOf (setting 3 12 800)) 0 y
+    → IsAces (matrixOf (setting 3 12 800)) x y y (negsuc 238166) (negsuc 283565) (negsuc 289927)
+unfolding acesNumber
+pixel-100 x y h g = rw (code-100 x h, code-0 y g) (record { red-is = refl; green-is = refl; blue-is = refl })
+
 scene-limit : (s : Setting) → Valid s → (n : ℕ) → IsNearest (decoded s) (topOf (s .width)) (pos limit) n → n ≡ topOf (s .width)
 scene-limit s v n i = nearest-only s (pos limit) n i ∙ encoded-last s v (pos limit) (not-above (raw s (topOf (s .width))) (raw-limited s v (topOf (s .width)) (le-refl _)))
   where
@@ -90,6 +96,7 @@ marked =
       code-4095-units = code-4095-units;
       code-0 = code-0;
       code-100 = code-100;
+      pixel-100 = pixel-100;
       code-612 = refl;
       code-613 = refl;
       ei-800 = refl;

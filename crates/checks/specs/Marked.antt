@@ -18,6 +18,7 @@ use Rattle.rules.specs.Setting.{settingCheck, codeCheck, curveOf, topOf, Valid}
 use Rattle.rules.specs.Exact.{signal, scaleOf, VersusExact}
 use Rattle.rules.specs.Decoding.{Decodes}
 use Rattle.rules.specs.Encoding.{IsNearest, sceneCheck}
+use Rattle.rules.specs.Matrix.{matrixOf, IsAces}
 use Rattle.rules.specs.Strip.{answerOf}
 use Rattle.curve.specs.Decoded.{decoded}
 use Rattle.strip.specs.Conversions.{pixelToScene}
@@ -38,7 +39,10 @@ pub record Marked : Type 0 where
   pub code-0 : (y : ℤ) → Decodes (scaleOf (setting 3 12 800)) 0 y → y ≡ negsuc 290084
   -- code 100 is -213,758;
   pub code-100 : (y : ℤ) → Decodes (scaleOf (setting 3 12 800)) 100 y → y ≡ negsuc 213757
-  -- code 612 is toe, 613 power."
+  -- pixel 100, 0, 0 as listed;" (its ACES numbers are -238167 -283566 -289928)
+  pub pixel-100 : (x y : ℤ) → Decodes (scaleOf (setting 3 12 800)) 100 x → Decodes (scaleOf (setting 3 12 800)) 0 y
+      → IsAces (matrixOf (setting 3 12 800)) x y y (negsuc 238166) (negsuc 283565) (negsuc 289927)
+  -- "code 612 is toe, 613 power."
   pub code-612 : inToe (curveOf (setting 3 12 800)) (signal (scaleOf (setting 3 12 800)) (whole 612)) ≡ true
   pub code-613 : inToe (curveOf (setting 3 12 800)) (signal (scaleOf (setting 3 12 800)) (whole 613)) ≡ false
   -- "Curve 4, width 12, EI 800: 5."

@@ -8,3 +8,4 @@ pub mod Decoding
 pub mod Record
 pub mod Strip
 pub mod Encoding
+pub mod Matrix

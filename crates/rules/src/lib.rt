@@ -13,6 +13,9 @@ pub struct Code(pub u16);
 // A scene number, in units of 2^-24.
 pub struct Scene(pub i64);
 
+// An ACES number, in units of 2^-24.
+pub struct Aces(pub i64);
+
 // Why a conversion refuses: the rows of the table "Refused, by the place of the check".
 pub enum Refusal {
     PartialRecord,

@@ -1,13 +1,21 @@
--- The division of an integer by a natural that rounds down, by its two bounds.
+-- The division of an integer by a natural that rounds down, by its two bounds and by its remainder; and what a word's division is.
 -- Assumes nothing.
-use mathlib.Core.Path.{_≡_, ap, _∙_, sym}
-use Prim.Native.Nat.{ℕ, suc, _+_, _-_, _*_, _<_, _≤_}
+use mathlib.Core.Path.{_≡_, refl, ap, _∙_, sym, subst}
+use mathlib.Core.Bool.{true, false}
+use Prim.Native.Nat.{ℕ, suc, _+_, _-_, _*_, _/_, _%_, _<_, _≤_}
+use native.Mathlib.Nat.{div-add-mod', mod-lt}
 use native.Mathlib.Omega.{arith}
 use lib.Arith.{digits-div}
+use lib.Dec.{T, ltb→lt}
 use lib.IntN.{ℤ, pos, negsuc, subℕ, _+ℤ_, _*ℤ_}
-use lib.Signed.{shrZ}
+use lib.Signed.{mag-shr, ltZ, shrZ, quotZ, _<ℤ_}
+use mir.Syntax.{w64}
+use mir.Val.{SFits, ofZ}
+use mir.ValLaws.{sfits-le}
+use borrow.Author.Tests.{ltb-true}
 use Rattle.whole.specs.Parts.{up, dn}
 use Rattle.whole.proofs.Reflect.{at, add, mul, eqZ, sub-dif}
+use Rattle.whole.proofs.Words.{notZ}
 
 -- the quotient is the number that leaves a remainder below m
 pub floor-is : (q : ℤ) (m r : ℕ) → r < m → shrZ (q *ℤ pos m +ℤ pos r) m ≡ q
@@ -24,3 +32,39 @@ floor-only a b m q l h = ap (λ (z : ℤ). shrZ z m) e ∙ floor-is q m (a + dn 
     e =
         eqZ (at (subℕ a b)) (add (mul (at q) (at (pos m))) (at (pos (a + dn q * m - (up q * m + b)))))
         (omega (arith, sub-dif a b))
+
+-- ---- the remainder
+abbrev pub modZ : ℤ → ℕ → ℕ
+modZ (pos a) m = a % m
+modZ (negsuc a) m = (m - 1) - a % m
+
+pub modZ-lt : (z : ℤ) (m : ℕ) → 0 < m → modZ z m < m
+modZ-lt (pos a) m h = mod-lt a h
+modZ-lt (negsuc a) m h = below (a % m)
+  where
+    below : (r : ℕ) → (m - 1) - r < m
+    below r = omega arith
+
+pub floor-mod : (z : ℤ) (m : ℕ) → 0 < m → shrZ z m *ℤ pos m +ℤ pos (modZ z m) ≡ z
+floor-mod (pos a) m h = ap pos (div-add-mod' a m)
+floor-mod (negsuc a) m h =
+    eqZ (add (mul (at (negsuc (a / m))) (at (pos m))) (at (pos ((m - 1) - a % m)))) (at (negsuc a))
+    (omega (arith, div-add-mod' a m, mod-lt a h))
+
+-- ---- words: what `/` asks and is at a divisor above 0
+pub above-zero : (m : ℤ) → pos 0 <ℤ m → 0 < ofZ w64 m
+above-zero (pos n) h = ltb→lt 0 n (h .lt)
+above-zero (negsuc n) h = absurd (h .lt)
+
+pub floor-fits : (z : ℤ) (m : ℕ) → SFits w64 z → SFits w64 (shrZ z m)
+floor-fits z m f = sfits-le (mag-shr z m) f
+
+pub quotient-below : (x m : ℤ) → ltZ x (pos 0) ≡ true → pos 0 <ℤ m → quotZ (notZ x) m ≡ notZ (shrZ x (up m))
+quotient-below (pos a) m e h = absurd (omega (arith, ltb-true a 0 e))
+quotient-below (negsuc a) (pos b) e h = refl
+quotient-below (negsuc a) (negsuc b) e h = absurd (h .lt)
+
+pub quotient-above : (x m : ℤ) → ltZ x (pos 0) ≡ false → pos 0 <ℤ m → quotZ x m ≡ shrZ x (up m)
+quotient-above (pos a) (pos b) e h = refl
+quotient-above (pos a) (negsuc b) e h = absurd (h .lt)
+quotient-above (negsuc a) m e h = absurd (subst T e tt)

@@ -1,8 +1,10 @@
-// Whole numbers: the upper half of a product of two words, and a number without its sign. (proofs/ has the laws of ℤ that the other
+// Whole numbers: the upper half of a product of two words, a number without its sign, and a quotient rounded down. (proofs/ has the laws of ℤ that the other
 // crates cite.)
 ghost use mathlib.Core.Path.{_≡_};
 ghost use Prim.Native.Nat.{_*_, _/_, _^_};
-ghost use lib.IntN.{natAbs};
+ghost use lib.IntN.{pos, natAbs};
+ghost use lib.Signed.{_<ℤ_, shrZ};
+ghost use Rattle.whole.specs.Parts.{up};
 
 // The upper 64 bits of a * b, by the digits of a and b in base 2^32, column by column.
 pub fn high_product(a: u64, b: u64) -> u64
@@ -23,4 +25,12 @@ pub fn magnitude(z: i64) -> u64
     ensures { λ r. ⌜ r ≡ natAbs z ⌝ }
 {
     if z < 0 { (-1 - z) as u64 + 1 } else { z as u64 }
+}
+
+// x over m, rounded down.
+pub fn floor_div(x: i64, m: i64) -> i64
+    requires { ⌜ pos 0 <ℤ m ⌝ }
+    ensures { λ r. ⌜ r ≡ shrZ x (up m) ⌝ }
+{
+    if x < 0 { -1 - (-1 - x) / m } else { x / m }
 }

@@ -1,0 +1,127 @@
+// ACES numbers: a row of the matrix times three scene numbers, over the scale, rounded once.
+ghost use mathlib.Core.Path.{_≡_};
+ghost use Prim.Native.Nat.{_<_};
+ghost use Rattle.rules.specs.Matrix.{matrixOf, acesNumber, IsAces};
+ghost use Rattle.matrix.specs.Row.{Entry, Number, Sums, RowFits, MatrixFits, low, middle, high, stepOf, rowOf, wide, wideRows};
+use rules::Aces;
+use rules::Scene;
+use rules::Setting;
+
+const BASE: i64 = 1000000;
+
+// The matrix of curve 4, over 10^18.
+const LOG_C4: [[i64; 3]; 3] = [
+    [750957362824734131, 144422786709757084, 104619850465508965],
+    [821837079380207, 1007397584885003194, -8219421964383583],
+    [-499952143533471, -854177231436971, 1001354129374970370],
+];
+
+// The matrix of curve 3, whose entries over 10^6 are these over 10^18.
+const LOG_C3: [[i64; 3]; 3] = [
+    [680205000000000000, 236137000000000000, 83658000000000000],
+    [85415000000000000, 1017471000000000000, -102886000000000000],
+    [2057000000000000, -62563000000000000, 1060506000000000000],
+];
+
+// The three ACES numbers of a pixel.
+pub struct Triple {
+    pub red: Aces,
+    pub green: Aces,
+    pub blue: Aces,
+}
+
+// The digits of an entry to the base 10^6, the lower two not below 0.
+struct Digits {
+    low: i64,
+    middle: i64,
+    high: i64,
+}
+
+fn split(c: i64) -> Digits
+    requires { ⌜ Entry c ⌝ }
+    ensures { λ r. ⌜ (r .low ≡ low c) × (r .middle ≡ middle c) × (r .high ≡ high c) ⌝ }
+{
+    let rest = whole::floor_div(c, BASE);
+    let h = whole::floor_div(rest, BASE);
+    Digits {
+        low: c - BASE * rest,
+        middle: rest - BASE * h,
+        high: h,
+    }
+}
+
+// One digit of each entry of a row times the three numbers, and a carry, over the base, rounded down.
+fn step(c0: i64, c1: i64, c2: i64, x: i64, y: i64, z: i64, carry: i64) -> i64
+    requires { ⌜ Sums c0 c1 c2 x y z carry ⌝ }
+    ensures { λ r. ⌜ r ≡ stepOf c0 c1 c2 x y z carry ⌝ }
+{
+    whole::floor_div(c0 * x + c1 * y + c2 * z + carry, BASE)
+}
+
+// A row of entries over 10^18 times three numbers, to the nearest whole number, a half going up.
+fn row_of(c0: i64, c1: i64, c2: i64, x: i64, y: i64, z: i64) -> i64
+    requires { ⌜ Entry c0 ⌝ }
+    requires { ⌜ Entry c1 ⌝ }
+    requires { ⌜ Entry c2 ⌝ }
+    requires { ⌜ Number x ⌝ }
+    requires { ⌜ Number y ⌝ }
+    requires { ⌜ Number z ⌝ }
+    ensures { λ r. ⌜ r ≡ rowOf c0 c1 c2 x y z ⌝ }
+{
+    let p = split(c0);
+    let q = split(c1);
+    let r = split(c2);
+    let l = step(p.low, q.low, r.low, x, y, z, 0);
+    let m = step(p.middle, q.middle, r.middle, x, y, z, l);
+    step(p.high, q.high, r.high, x, y, z, m + 500000)
+}
+
+// The row i of a matrix over 10^18 times three numbers.
+fn row(m: [[i64; 3]; 3], i: usize, x: i64, y: i64, z: i64) -> i64
+    requires { ⌜ i < 3 ⌝ }
+    requires { ⌜ RowFits m i ⌝ }
+    requires { ⌜ Number x ⌝ }
+    requires { ⌜ Number y ⌝ }
+    requires { ⌜ Number z ⌝ }
+    ensures { λ r. ⌜ r ≡ acesNumber (wide m) i x y z ⌝ }
+{
+    let c0 = m[i][0];
+    let c1 = m[i][1];
+    let c2 = m[i][2];
+    row_of(c0, c1, c2, x, y, z)
+}
+
+// The three rows of a matrix over 10^18 times three numbers.
+fn rows(m: [[i64; 3]; 3], x: i64, y: i64, z: i64) -> Triple
+    requires { ⌜ MatrixFits m ⌝ }
+    requires { ⌜ Number x ⌝ }
+    requires { ⌜ Number y ⌝ }
+    requires { ⌜ Number z ⌝ }
+    ensures { λ r. ⌜ IsAces (wide m) x y z (r .red .0) (r .green .0) (r .blue .0) ⌝ }
+{
+    let red = row(m, 0, x, y, z);
+    let green = row(m, 1, x, y, z);
+    let blue = row(m, 2, x, y, z);
+    Triple {
+        red: Aces(red),
+        green: Aces(green),
+        blue: Aces(blue),
+    }
+}
+
+// The matrix of a setting, over 10^18.
+fn matrix_of(s: Setting) -> [[i64; 3]; 3]
+    ensures { λ m. ⌜ m ≡ wideRows s ⌝ }
+{
+    if s.curve == 3 { LOG_C3 } else { LOG_C4 }
+}
+
+// The ACES numbers of three scene numbers.
+pub fn aces(s: Setting, x: Scene, y: Scene, z: Scene) -> Triple
+    requires { ⌜ Number (x .0) ⌝ }
+    requires { ⌜ Number (y .0) ⌝ }
+    requires { ⌜ Number (z .0) ⌝ }
+    ensures { λ r. ⌜ IsAces (matrixOf s) (x .0) (y .0) (z .0) (r .red .0) (r .green .0) (r .blue .0) ⌝ }
+{
+    rows(matrix_of(s), x.0, y.0, z.0)
+}
