@@ -9,16 +9,12 @@ use borrow.Author.Tests.{ltb-true, ltb-false}
 use lib.Dec.{ltb, lit<}
 use lib.IntN.{ℤ, pos, negsuc, natAbs, subℕ, _-ℤ_}
 use Rattle.whole.specs.Parts.{up, dn}
-use Rattle.whole.proofs.Reflect.{at, sub, dif, one-zero, sub-dif}
+use Rattle.whole.proofs.Reflect.{abs-is, at, sub, dif, one-zero, sub-dif}
 use Rattle.rules.specs.Encoding.{distance, IsNearest}
 use Rattle.curve.specs.Decoded.{offset}
 use Rattle.encode.specs.Search.{Found}
 
 -- ---- two numbers p and q with the offset, and half way between them
-
-pub abs-is : (z : ℤ) → natAbs z ≡ up z + dn z
-abs-is (pos n) = omega arith
-abs-is (negsuc n) = omega arith
 
 -- of the lower of two numbers that x is not past half way to the higher, and of the higher where x is past it
 closer : (x : ℤ) (p q : ℕ) → p < q → 2 * (up x + offset) ≤ p + q + 2 * dn x → natAbs (x -ℤ subℕ p offset) ≤ natAbs (x -ℤ subℕ q offset)

@@ -10,14 +10,13 @@ use lib.Dec.{eqb, lit<, lit≤}
 use lib.IntN.{ℤ, pos, natAbs, subℕ, _+ℤ_, _*ℤ_}
 use lib.Signed.{shrZ}
 use Rattle.whole.specs.Parts.{up, dn}
-use Rattle.whole.proofs.Reflect.{at, add, mul, dif, eqZ, eqN, sub-dif, one-zero}
+use Rattle.whole.proofs.Reflect.{abs-is, at, add, mul, dif, eqZ, eqN, sub-dif, one-zero}
 use Rattle.whole.proofs.Floor.{floor-only, modZ, modZ-lt, floor-mod}
 use Rattle.rules.specs.declared.Setting.{Setting}
 use Rattle.rules.specs.Choice.{choose}
 use Rattle.rules.specs.Fraction.{integer, whole, _/ℚ_, nearest}
 use Rattle.rules.specs.Matrix.{Matrix, logC3Matrix, logC4Matrix, matrixOf, entry, rowProduct, acesNumber, IsAces}
 use Rattle.matrix.specs.Row.{Number, MatrixFits, wide, wideRows}
-use Rattle.matrix.proofs.Sums.{abs-is}
 
 -- a quotient to the nearest, over naturals
 nearest-of : (S : ℤ) (s : ℕ) → nearest (integer S /ℚ whole s) ≡ shrZ (subℕ (2 * up S + s) (2 * dn S)) (2 * s)

@@ -10,16 +10,12 @@ use lib.Signed.{shrZ}
 use mir.Syntax.{w64}
 use mir.Val.{SFits}
 use Rattle.whole.specs.Parts.{up, dn}
-use Rattle.whole.proofs.Reflect.{Ex, val, hi, lo, at, add, sub, mul, dif, eqZ, eqN, one-zero}
+use Rattle.whole.proofs.Reflect.{Ex, val, hi, lo, at, add, sub, mul, dif, eqZ, eqN, abs-is, one-zero}
 use Rattle.whole.proofs.Floor.{modZ, modZ-lt, floor-mod}
 use Rattle.whole.proofs.Words.{fitsZ}
 use Rattle.rules.specs.Fraction.{integer, whole, _/ℚ_, nearest}
 use Rattle.rules.proofs.Nearest.{nearest-is}
 use Rattle.matrix.specs.Row.{low, middle, high, sumOf, stepOf, rowOf, Entry, Number, Sums}
-
-pub abs-is : (z : ℤ) → natAbs z ≡ up z + dn z
-abs-is (pos n) = omega arith
-abs-is (negsuc n) = omega arith
 
 -- ---- the digits
 pub low-is : (c : ℤ) → low c ≡ pos (modZ c 1000000)

@@ -7,9 +7,14 @@ use mathlib.Core.Bool.{Bool, true, false, not, cond}
 use Prim.Native.Nat.{ℕ, zero, suc, _+_, _*_, _-_, _<_, _≤_, min}
 use native.Mathlib.Omega.{arith}
 use lib.Dec.{T, ltb, leb, ltb→lt, nltb→le, leb→le, le→leb, lt→ltb}
-use lib.IntN.{ℤ, pos, negsuc, negℤ, subℕ, _+ℤ_, _-ℤ_, _*ℤ_}
+use lib.IntN.{ℤ, pos, negsuc, natAbs, negℤ, subℕ, _+ℤ_, _-ℤ_, _*ℤ_}
 use lib.Signed.{leZ, ltZ, _≤ℤ_, _<ℤ_}
 use Rattle.whole.specs.Parts.{up, dn}
+
+-- their sum is the number without its sign
+pub abs-is : (z : ℤ) → natAbs z ≡ up z + dn z
+abs-is (pos n) = omega arith
+abs-is (negsuc n) = omega arith
 
 -- one of the two is 0
 pub one-zero : (z : ℤ) → min (up z) (dn z) ≡ 0
