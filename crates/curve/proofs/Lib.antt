@@ -10,3 +10,4 @@ pub mod Theorems
 pub mod Program
 pub mod Fit
 pub mod Limit
+pub mod Close

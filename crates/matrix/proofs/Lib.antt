@@ -1,2 +1,4 @@
 pub mod Sums
 pub mod Scales
+pub mod TwoUnits
+pub mod Theorems

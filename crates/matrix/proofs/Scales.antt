@@ -19,7 +19,7 @@ use Rattle.rules.specs.Matrix.{Matrix, logC3Matrix, logC4Matrix, matrixOf, entr
 use Rattle.matrix.specs.Row.{Number, MatrixFits, wide, wideRows}
 
 -- a quotient to the nearest, over naturals
-nearest-of : (S : ℤ) (s : ℕ) → nearest (integer S /ℚ whole s) ≡ shrZ (subℕ (2 * up S + s) (2 * dn S)) (2 * s)
+pub nearest-of : (S : ℤ) (s : ℕ) → nearest (integer S /ℚ whole s) ≡ shrZ (subℕ (2 * up S + s) (2 * dn S)) (2 * s)
 nearest-of S s = rw (mul-one (up S), mul-one (dn S), one-mul, sub-zero)
 
 -- ---- greys: where the entries of a row sum to k, which is near the scale s

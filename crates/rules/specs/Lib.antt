@@ -9,3 +9,4 @@ pub mod Record
 pub mod Strip
 pub mod Encoding
 pub mod Matrix
+pub mod ExactRow

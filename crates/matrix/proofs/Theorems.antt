@@ -1,0 +1,37 @@
+-- DEMANDS 2 and 3, the ACES numbers of a pixel, for every valid setting.
+-- Assumes nothing.
+use Prim.Native.Nat.{ℕ, _+_, _^_, _≤_, _<_}
+use native.Mathlib.Omega.{arith}
+use lib.Dec.{eqb}
+use lib.IntN.{ℤ, subℕ}
+use Rattle.whole.specs.Parts.{up, dn}
+use Rattle.whole.proofs.Reflect.{abs-is, one-zero, sub-dif}
+use Rattle.rules.specs.declared.Setting.{Setting}
+use Rattle.rules.specs.Setting.{topOf, Valid}
+use Rattle.rules.specs.Exact.{scaleOf}
+use Rattle.rules.specs.Matrix.{matrixOf, acesNumber, IsAces}
+use Rattle.rules.specs.ExactRow.{TwoUnits}
+use Rattle.curve.specs.Decoded.{offset, raw, decoded}
+use Rattle.curve.proofs.Close.{decoded-close}
+use Rattle.curve.proofs.Limit.{raw-limited}
+use Rattle.matrix.specs.Row.{Number}
+use Rattle.matrix.proofs.Scales.{greys-stay}
+use Rattle.matrix.proofs.TwoUnits.{matrix-two-units}
+
+limited : (u : ℕ) → u ≤ 2 ^ 40 → Number (subℕ u offset)
+limited u h = record { small = omega (arith, abs-is (subℕ u offset), one-zero (subℕ u offset), sub-dif u offset) }
+
+-- a decoded number may be taken to ACES
+pub decoded-number : (s : Setting) → Valid s → (n : ℕ) → n ≤ topOf (s .width) → Number (decoded s n)
+decoded-number s v n h = limited (raw s n) (raw-limited s v n h)
+
+-- "greys stay grey": three equal codes give three equal ACES numbers, and these are the code's decoded number
+pub equal-codes : (s : Setting) → Valid s → (n : ℕ) → n ≤ topOf (s .width)
+    → IsAces (matrixOf s) (decoded s n) (decoded s n) (decoded s n) (decoded s n) (decoded s n) (decoded s n)
+equal-codes s v n h = greys-stay s (decoded s n) (decoded-number s v n h)
+
+-- "each ACES number less than two units from the exact curve and matrix"
+pub aces-two-units : (s : Setting) → Valid s → (i : ℕ) → i < 3 → (r g b : ℕ) → r ≤ topOf (s .width) → g ≤ topOf (s .width) → b ≤ topOf (s .width)
+    → TwoUnits (matrixOf s) i (scaleOf s) r g b (acesNumber (matrixOf s) i (decoded s r) (decoded s g) (decoded s b))
+aces-two-units s v i h r g b hr hg hb =
+    matrix-two-units (eqb (s .curve) 3) i h (scaleOf s) r g b (decoded s r) (decoded s g) (decoded s b) (decoded-close s v r hr) (decoded-close s v g hg) (decoded-close s v b hb)
