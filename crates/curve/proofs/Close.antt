@@ -2,16 +2,15 @@
 -- Assumes nothing.
 use mathlib.Core.Bool.{Bool, true, false}
 use mathlib.Core.List.{List}
-use mathlib.Core.Path.{_≡_, refl, ap, _∙_}
+use mathlib.Core.Path.{_≡_, refl, _∙_}
 use Prim.Native.Nat.{ℕ, _+_, _-_, _*_, _^_, _≤_, _<_}
 use native.Mathlib.Nat.{sub-zero}
 use native.Mathlib.Omega.{arith}
 use lib.Dec.{T}
-use lib.IntN.{ℤ, pos, subℕ, _+ℤ_, _*ℤ_}
+use lib.IntN.{ℤ, subℕ}
 use lib.Signed.{shrZ}
 use Rattle.whole.specs.Parts.{up, dn}
-use Rattle.whole.proofs.Reflect.{at, add, mul, eqN, sub-dif}
-use Rattle.whole.proofs.Floor.{modZ, modZ-lt, floor-mod}
+use Rattle.whole.proofs.Floor.{half-bounds}
 use Rattle.whole.proofs.Tidy.{tidy}
 use Rattle.rules.specs.declared.Setting.{Setting}
 use Rattle.rules.specs.Setting.{topOf, curveOf, Valid}
@@ -27,33 +26,23 @@ use Rattle.curve.proofs.Right.{divisor}
 use Rattle.curve.proofs.Settings.{sourceOf, passed}
 use Rattle.curve.proofs.Theorems.{decoding}
 
--- the nearest whole number to p - m over o, where both were multiplied by 2 ^ 24
-rounded : (p m o : ℕ) → 0 < o → (y : ℤ) → y ≡ shrZ (subℕ (2 * (p * 16777216) + o) (2 * (m * 16777216))) (2 * o)
-    → (up y * o + m * 16777216 < p * 16777216 + (dn y + 1) * o) × (p * 16777216 + dn y * o < (up y + 1) * o + m * 16777216)
-rounded p m o h y e =
-    let d = subℕ (2 * (p * 16777216) + o) (2 * (m * 16777216)) in
-    let f : y *ℤ pos (2 * o) +ℤ pos (modZ d (2 * o)) ≡ d = ap (λ (q : ℤ). q *ℤ pos (2 * o) +ℤ pos (modZ d (2 * o))) e ∙ floor-mod d (2 * o) (omega arith) in
-    let g = eqN (add (mul (at y) (at (pos (2 * o)))) (at (pos (modZ d (2 * o))))) (at d) f in
-    let r = modZ-lt d (2 * o) (omega arith) in
-    (omega (arith, sub-dif (2 * (p * 16777216) + o) (2 * (m * 16777216))), omega (arith, sub-dif (2 * (p * 16777216) + o) (2 * (m * 16777216))))
-
 -- a fraction's nearest whole number
 toe-close : (t : Fraction) → 0 < t .over → (y : ℤ) → y ≡ nearest (t *ℚ whole (2 ^ 24))
     → Versus Less ((integer y -ℚ whole 1) *ℚ unit) t × Versus Greater ((integer y +ℚ whole 1) *ℚ unit) t
 toe-close t h y e =
-    let b = rounded (t .plus) (t .minus) (t .over) h y (e ∙ shape (t .plus) (t .minus) (t .over)) in
-    (less (up y) (dn y) (t .plus) (t .minus) (t .over) (b .0), greater (up y) (dn y) (t .plus) (t .minus) (t .over) (b .1))
+    let b = half-bounds (t .plus * 16777216) (t .minus * 16777216) (t .over) h y (e ∙ shape (t .plus) (t .minus) (t .over)) in
+    (less (up y) (dn y) (t .plus) (t .minus) (t .over) h (b .0), greater (up y) (dn y) (t .plus) (t .minus) (t .over) h (b .1))
   where
     shape : (p m o : ℕ) → shrZ (subℕ (2 * (p * 16777216 + m * 0) + o * 1) (2 * (p * 0 + m * 16777216))) (2 * (o * 1)) ≡ shrZ (subℕ (2 * (p * 16777216) + o) (2 * (m * 16777216))) (2 * o)
     shape p m o = simp tidy
 
-    less : (u d p m o : ℕ) → u * o + m * 16777216 < p * 16777216 + (d + 1) * o
+    less : (u d p m o : ℕ) → 0 < o → u * (2 * o) + 2 * (m * 16777216) ≤ 2 * (p * 16777216) + o + d * (2 * o)
         → ((u * 1 + 0) * 1 + (d * 1 + 1) * 0) * o + m * 16777216 < p * 16777216 + ((u * 1 + 0) * 0 + (d * 1 + 1) * 1) * o
-    less u d p m o h = omega arith
+    less u d p m o z h = omega arith
 
-    greater : (u d p m o : ℕ) → p * 16777216 + d * o < (u + 1) * o + m * 16777216
+    greater : (u d p m o : ℕ) → 0 < o → 2 * (p * 16777216) + o + d * (2 * o) < u * (2 * o) + 2 * o + 2 * (m * 16777216)
         → p * 16777216 + ((u * 1 + 1) * 0 + (d * 1 + 0) * 1) * o < ((u * 1 + 1) * 1 + (d * 1 + 0) * 0) * o + m * 16777216
-    greater u d p m o h = omega arith
+    greater u d p m o z h = omega arith
 
 part-close : (k : Scale) (n : ℕ) (y : ℤ) (b : Bool) → (T b → 0 < toeValue (k .curve) (signal k (whole n)) .over) → inToe (k .curve) (signal k (whole n)) ≡ b → DecodesPart k n y b → Close k n y
 part-close k n y true h e (DecodesPart.toe p) =

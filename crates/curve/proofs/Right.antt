@@ -4,7 +4,7 @@ use mathlib.Core.Path.{_≡_, refl, sym, ap, _∙_, subst}
 use mathlib.Core.Bool.{Bool, true, false, not}
 use mathlib.Core.List.{List}
 use Prim.Native.Nat.{ℕ, zero, suc, _+_, _-_, _*_, _/_, _^_, _≤_, _<_}
-use native.Mathlib.Nat.{le-of-lt, lt-trans, mul-le-mul-right, le-of-mul-le-mul-right, lt-of-mul-lt-mul-right, div-mul-le-self, lt-div-mul-add, add-sub-of-le}
+use native.Mathlib.Nat.{le-of-suc-le-suc, le-of-lt, lt-trans, mul-le-mul-right, le-of-mul-le-mul-right, lt-of-mul-lt-mul-right, div-mul-le-self, lt-div-mul-add, add-sub-of-le}
 use native.Mathlib.Omega.{arith}
 use borrow.Author.Tests.{ltb-true, ltb-false, lt-ltb, le-ltb}
 use lib.Dec.{T, ltb, ltb→lt, leb→le, lit<}
@@ -16,6 +16,7 @@ use Rattle.rules.specs.Exact.{Scale, signal, VersusPart}
 use Rattle.rules.specs.Decoding.{DecodesPart, Decodes}
 use Rattle.table.specs.Table.{fine}
 use Rattle.curve.specs.declared.decoder.Decoder.{Decoder}
+use Rattle.curve.specs.Gap.{gap}
 use Rattle.curve.specs.Decoded.{offset, product, toeRaw, powerRaw, rawBy, decoderOf, firstOf, toeOf, overOf}
 use Rattle.curve.proofs.Tests.{Source, nth, passes, every, tests, toeTests, first, bias, ratio-above-one, steps, toe-right, toe-added, toe-divisor, toe-steps, border-rises}
 use Rattle.curve.proofs.Law.{no-less, next-low}
@@ -43,23 +44,22 @@ failed false h = refl
 step : (v v′ δ lo S w least : ℕ) → 0 < S → lo ≡ S + δ → v * lo ≤ (v′ + 5) * S → least ≤ v + 5 → (w + 5) * S + 5 * δ ≤ least * δ → v + w ≤ v′
 step v v′ δ lo S w least p e h m t = le-of-mul-le-mul-right {k = S} (omega (arith, ap (λ (x : ℕ). v * x) e, mul-le-mul-right δ m)) p
 
-rise : (v v′ i w : ℕ) → 0 < w → v + w ≤ v′ → (v + i) / w < (v′ + i) / w
-rise v v′ i w p h =
-    lt-of-mul-lt-mul-right w (omega (arith, div-mul-le-self (v + i) w, lt-div-mul-add {a = v′ + i} {b = w} p))
+rise : (v v′ i w : ℕ) → 0 < w → v + gap * w ≤ v′ → (v + i) / w + gap ≤ (v′ + i) / w
+rise v v′ i w p h = le-of-suc-le-suc (lt-of-mul-lt-mul-right w (omega (arith, div-mul-le-self (v + i) w, lt-div-mul-add {a = v′ + i} {b = w} p)))
 
 module _ (c : Curve) (start span top : ℕ) (t : List ℕ) (s : Source) (ok : T (every (tests (record { curve = c; start = start; span = span }) top t s))) where
   abbrev k : Scale
   k = record { curve = c; start = start; span = span }
 
-  pub power-step : (n : ℕ) → first k ≤ n → n < top → powerRaw (decoderOf k) t n < powerRaw (decoderOf k) t (n + 1)
+  pub power-step : (n : ℕ) → first k ≤ n → n < top → powerRaw (decoderOf k) t n + gap ≤ powerRaw (decoderOf k) t (n + 1)
   unfolding nth
   power-step n g h =
       rise (product t n) (product t (n + 1)) (bias k) (2 ^ 29) (lit< tt)
-      (step (product t n) (product t (n + 1)) (s .ratio - fine) (s .ratio) fine (2 ^ 29) (product t (first k)) (lit< tt)
+      (step (product t n) (product t (n + 1)) (s .ratio - fine) (s .ratio) fine (gap * 2 ^ 29) (product t (first k)) (lit< tt)
       (sym (add-sub-of-le (leb→le fine (s .ratio) (passes (tests k top t s) ok ratio-above-one))))
       (next-low k top t s ok n h)
       (no-less k top t s ok (first k) n g (le-of-lt h))
-      (leb→le ((2 ^ 29 + 5) * fine + 5 * (s .ratio - fine)) (product t (first k) * (s .ratio - fine)) (passes (tests k top t s) ok steps)))
+      (leb→le ((gap * 2 ^ 29 + 5) * fine + 5 * (s .ratio - fine)) (product t (first k) * (s .ratio - fine)) (passes (tests k top t s) ok steps)))
 
   toe-ok : T (every (toeTests c start span t))
   unfolding nth
@@ -75,7 +75,7 @@ module _ (start span top : ℕ) (t : List ℕ) (s : Source) (ok : T (every (test
       rw (raw-power (decoderOf k4) t n (omega arith))
       (DecodesPart.power (VersusPart.power (below-exact k4 top t s ok n (omega arith) h)) (VersusPart.power (above-exact k4 top t s ok n (omega arith) h)))
 
-  rises4 : (n : ℕ) → n < top → rawBy (decoderOf k4) t n < rawBy (decoderOf k4) t (n + 1)
+  rises4 : (n : ℕ) → n < top → rawBy (decoderOf k4) t n + gap ≤ rawBy (decoderOf k4) t (n + 1)
   rises4 n h =
       rw (raw-power (decoderOf k4) t n (omega arith), raw-power (decoderOf k4) t (n + 1) (omega arith)) (power-step logC4 start span top t s ok n (omega arith) h)
 
@@ -118,12 +118,12 @@ module _ (c : Constants) (start span top : ℕ) (t : List ℕ) (s : Source) (ok 
       go true e = in-toe (ltb-true n (d3 .first) e)
       go false e = in-power (ltb-false n (d3 .first) e)
 
-  toe-step : (n : ℕ) → toeRaw d3 n < toeRaw d3 (n + 1)
+  toe-step : (n : ℕ) → toeRaw d3 n + gap ≤ toeRaw d3 (n + 1)
   unfolding nth
   toe-step n =
-      subst (λ (x : ℕ). toeRaw d3 n < x / (2 * (c .e * span))) (next (toeOf (logC3 c) start span))
+      subst (λ (x : ℕ). toeRaw d3 n + gap ≤ x / (2 * (c .e * span))) (next (toeOf (logC3 c) start span))
       (rise (2 ^ 25 * 1000000 * n) (2 ^ 25 * 1000000 * n + 2 ^ 25 * 1000000) (toeOf (logC3 c) start span) (2 * (c .e * span)) (twice (c .e * span) divisor)
-      (more (2 * (c .e * span)) (leb→le (2 * (c .e * span)) (2 ^ 25 * 1000000) (toe-test toe-steps))))
+      (more (gap * (2 * (c .e * span))) (leb→le (gap * (2 * (c .e * span))) (2 ^ 25 * 1000000) (toe-test toe-steps))))
     where
       twice : (x : ℕ) → 0 < x → 0 < 2 * x
       twice x h = omega arith
@@ -134,15 +134,15 @@ module _ (c : Constants) (start span top : ℕ) (t : List ℕ) (s : Source) (ok 
       next : (x : ℕ) → 2 ^ 25 * 1000000 * n + 2 ^ 25 * 1000000 + x ≡ 2 ^ 25 * 1000000 * (n + 1) + x
       next x = omega arith
 
-  border-step : (n : ℕ) → n + 1 ≡ d3 .first → rawBy d3 t n < rawBy d3 t (n + 1)
+  border-step : (n : ℕ) → n + 1 ≡ d3 .first → rawBy d3 t n + gap ≤ rawBy d3 t (n + 1)
   unfolding nth
   border-step n e =
-      rw e (subst (λ (x : ℕ). rawBy d3 t x < rawBy d3 t (d3 .first)) (before (d3 .first) e) (ltb→lt (rawBy d3 t (d3 .first - 1)) (rawBy d3 t (d3 .first)) (toe-test border-rises)))
+      rw e (subst (λ (x : ℕ). rawBy d3 t x + gap ≤ rawBy d3 t (d3 .first)) (before (d3 .first) e) (leb→le (rawBy d3 t (d3 .first - 1) + gap) (rawBy d3 t (d3 .first)) (toe-test border-rises)))
     where
       before : (f : ℕ) → n + 1 ≡ f → f - 1 ≡ n
       before f e = omega arith
 
-  rises3 : (n : ℕ) → n < top → rawBy d3 t n < rawBy d3 t (n + 1)
+  rises3 : (n : ℕ) → n < top → rawBy d3 t n + gap ≤ rawBy d3 t (n + 1)
   rises3 n h = go (ltb (n + 1) (d3 .first)) refl (ltb n (d3 .first)) refl
     where
       earlier : (f : ℕ) → n + 1 < f → n < f
@@ -151,7 +151,7 @@ module _ (c : Constants) (start span top : ℕ) (t : List ℕ) (s : Source) (ok 
       border : (f : ℕ) → f ≤ n + 1 → n < f → n + 1 ≡ f
       border f g h = omega arith
 
-      go : (x : Bool) → ltb (n + 1) (d3 .first) ≡ x → (y : Bool) → ltb n (d3 .first) ≡ y → rawBy d3 t n < rawBy d3 t (n + 1)
+      go : (x : Bool) → ltb (n + 1) (d3 .first) ≡ x → (y : Bool) → ltb n (d3 .first) ≡ y → rawBy d3 t n + gap ≤ rawBy d3 t (n + 1)
       go true e y f =
           rw (raw-toe d3 t n (earlier (d3 .first) (ltb-true (n + 1) (d3 .first) e)), raw-toe d3 t (n + 1) (ltb-true (n + 1) (d3 .first) e)) (toe-step n)
       go false e true f = border-step n (border (d3 .first) (ltb-false (n + 1) (d3 .first) e) (ltb-true n (d3 .first) f))
@@ -166,6 +166,6 @@ decodes logC4 start span top t s ok = decodes4 start span top t s ok
 decodes (logC3 c) start span top t s ok = decodes3 c start span top t s ok
 
 pub rises : (c : Curve) (start span top : ℕ) (t : List ℕ) (s : Source) → T (every (tests (record { curve = c; start = start; span = span }) top t s))
-    → (n : ℕ) → n < top → rawBy (decoderOf (record { curve = c; start = start; span = span })) t n < rawBy (decoderOf (record { curve = c; start = start; span = span })) t (n + 1)
+    → (n : ℕ) → n < top → rawBy (decoderOf (record { curve = c; start = start; span = span })) t n + gap ≤ rawBy (decoderOf (record { curve = c; start = start; span = span })) t (n + 1)
 rises logC4 start span top t s ok = rises4 start span top t s ok
 rises (logC3 c) start span top t s ok = rises3 c start span top t s ok

@@ -13,6 +13,7 @@ use Rattle.power.specs.Progression.{squareDown, squareUp}
 use Rattle.power.proofs.Certificate.{both, both-left, both-right, up-run, down-run}
 use Rattle.power.proofs.Rows.{row}
 use Rattle.table.specs.Table.{lift, fine}
+use Rattle.curve.specs.Gap.{gap}
 use Rattle.curve.specs.Decoded.{offset, product, rawBy, decoderOf, firstOf, biasOf, toeOf}
 use Rattle.curve.proofs.Cleared.{rise, exponentAt}
 
@@ -118,8 +119,8 @@ toeTests logC4 start span t = []
 toeTests (logC3 c) start span t =
     leb (2 ^ 25 * (1000000 * start + c .f * span)) (c .e * span * (2 * offset + 1))
     ∷ ltb 0 (c .e * span)
-    ∷ leb (2 * (c .e * span)) (2 ^ 25 * 1000000)
-    ∷ ltb (rawBy (decoderOf (record { curve = logC3 c; start = start; span = span })) t (firstOf (logC3 c) start span - 1))
+    ∷ leb (gap * (2 * (c .e * span))) (2 ^ 25 * 1000000)
+    ∷ leb (rawBy (decoderOf (record { curve = logC3 c; start = start; span = span })) t (firstOf (logC3 c) start span - 1) + gap)
     (rawBy (decoderOf (record { curve = logC3 c; start = start; span = span })) t (firstOf (logC3 c) start span))
     ∷ []
 
@@ -143,7 +144,7 @@ tests k top t s =
     ∷ ltb 0 (entry k * unit k)
     ∷ leb (exponentAt k 0 1 .minus) (lift * q k)
     ∷ leb fine (s .ratio)
-    ∷ leb ((2 ^ 29 + 5) * fine + 5 * (s .ratio - fine)) (product t (first k) * (s .ratio - fine))
+    ∷ leb ((gap * 2 ^ 29 + 5) * fine + 5 * (s .ratio - fine)) (product t (first k) * (s .ratio - fine))
     ∷ ltb 5 (product t (first k))
     ∷ ltb (far * kappa k * bias k + far * 2 ^ 24 * plus-less k * 2 ^ 29) (kappa k * (far * offset + near) * 2 ^ 29 + far * 2 ^ 24 * minus-less k * 2 ^ 29)
     ∷ ltb (far * kappa k * 2 ^ 29 + 4 * (far * kappa k) + far * offset * kappa k * 2 ^ 29 + far * 2 ^ 24 * minus-less k * 2 ^ 29) (near * kappa k * 2 ^ 29 + far * 2 ^ 24 * plus-less k * 2 ^ 29 + far * kappa k * bias k)

@@ -10,7 +10,9 @@ use lib.Dec.{ltb, lit<}
 use lib.IntN.{ℤ, pos, negsuc, natAbs, subℕ, _-ℤ_}
 use Rattle.whole.specs.Parts.{up, dn}
 use Rattle.whole.proofs.Reflect.{abs-is, at, sub, dif, one-zero, sub-dif}
+use Rattle.whole.proofs.Near.{Near}
 use Rattle.rules.specs.Encoding.{distance, IsNearest}
+use Rattle.curve.specs.Gap.{gap}
 use Rattle.curve.specs.Decoded.{offset}
 use Rattle.encode.specs.Search.{Found}
 
@@ -106,6 +108,15 @@ module _ (u : ℕ → ℕ) (top : ℕ) (rises : (m n : ℕ) → m < n → n ≤ 
   pub last-within : (x : ℤ) → u top + dn x ≤ up x + offset → Within u top x top
   last-within x h =
       record { in-range = le-refl top; above = λ m e. omega (arith, rises m top (omega arith) (le-refl top)); below = λ g. absurd (omega arith) }
+
+-- what is nearer to the number of a code than half the gap
+pub near-within : (u : ℕ → ℕ) (top : ℕ) → ((m n : ℕ) → m < n → n ≤ top → u m + gap ≤ u n) → (x : ℤ) (n : ℕ) → n ≤ top → Near x (subℕ (u n) offset) 13 → Within u top x n
+near-within u top apart x n h i =
+    record {
+      in-range = h;
+      above = λ m e. omega (arith, sub-dif (u n) offset, i .low, apart m n (omega arith) h);
+      below = λ g. omega (arith, sub-dif (u n) offset, i .high, apart n (n + 1) (omega arith) (omega arith));
+    }
 
 -- what a search finds, where y is x with the offset
 pub found-within : (u : ℕ → ℕ) (top : ℕ) (x : ℤ) (y n : ℕ) → up x + offset ≡ y + dn x → Found u top y n → Within u top x n

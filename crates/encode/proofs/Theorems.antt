@@ -8,6 +8,7 @@ use lib.IntN.{ℤ}
 use lib.Signed.{_≤ℤ_}
 use Rattle.whole.specs.Parts.{up, dn}
 use Rattle.whole.proofs.Reflect.{at, leN-of, sub-dif}
+use Rattle.whole.proofs.Near.{Near}
 use Rattle.rules.specs.declared.Setting.{Setting}
 use Rattle.rules.specs.Fraction.{ratio, integer, _*ℚ_}
 use Rattle.rules.specs.Setting.{topOf, curveOf, Valid}
@@ -18,9 +19,9 @@ use Rattle.rules.proofs.Closest as closest
 use Rattle.table.specs.Table.{tableOf}
 use Rattle.curve.specs.Decoded.{offset, raw, decoded}
 use Rattle.curve.proofs.Settings.{sourceOf, passed}
-use Rattle.curve.proofs.Theorems.{raw-rises}
+use Rattle.curve.proofs.Theorems.{raw-rises, raw-apart}
 use Rattle.encode.specs.Encoded.{encoded}
-use Rattle.encode.proofs.HalfWays.{Within, own-within, first-within, last-within, nearest-within}
+use Rattle.encode.proofs.HalfWays.{Within, own-within, first-within, last-within, near-within, nearest-within}
 use Rattle.encode.proofs.Codes.{code-is}
 use Rattle.encode.proofs.Settings.{thirds-passed}
 use Rattle.encode.proofs.Thirds.{at-most-half, at-least-half, under, over}
@@ -45,6 +46,10 @@ encoded-last s v x h =
 -- a decoded number is encoded to its code
 pub encode-decoded : (s : Setting) → Valid s → (n : ℕ) → n ≤ topOf (s .width) → encoded s (decoded s n) ≡ n
 encode-decoded s v n h = sym (code-is s v (decoded s n) n (own-within (raw s) (topOf (s .width)) (raw-rises s v) n h))
+
+-- and so is every number near it
+pub encode-near : (s : Setting) → Valid s → (x : ℤ) (n : ℕ) → n ≤ topOf (s .width) → Near x (decoded s n) 13 → encoded s x ≡ n
+encode-near s v x n h i = sym (code-is s v x n (near-within (raw s) (topOf (s .width)) (raw-apart s v) x n h i))
 
 -- "For answer n below top, the scene number is at most 2^24 times the exact curve at n + 2/3; for n above 0 it is at least 2^24 times the
 -- exact curve at n - 2/3": of any number that lies between the half ways beside n

@@ -1,12 +1,12 @@
 -- A row over 10 ^ 18 whose entries are 10 ^ 12 times those over 10 ^ 6 is the same row; and a row whose entries sum to the scale keeps greys.
 -- Assumes nothing.
 use mathlib.Core.Bool.{Bool, true, false}
-use mathlib.Core.List.{List, map}
+use mathlib.Core.List.{List, [], _∷_, map}
 use mathlib.Core.Path.{_≡_, refl, sym, ap, _∙_}
 use Prim.Native.Nat.{ℕ, zero, suc, _+_, _-_, _*_, _^_, _<_, _≤_}
 use native.Mathlib.Nat.{mul-one, one-mul, sub-zero, mul-le-mul-right}
 use native.Mathlib.Omega.{arith}
-use lib.Dec.{eqb, lit<, lit≤}
+use lib.Dec.{T, eqb, leb, lit<, lit≤, leb→le}
 use lib.IntN.{ℤ, pos, natAbs, subℕ, _+ℤ_, _*ℤ_}
 use lib.Signed.{shrZ}
 use Rattle.whole.specs.Parts.{up, dn}
@@ -16,7 +16,9 @@ use Rattle.rules.specs.declared.Setting.{Setting}
 use Rattle.rules.specs.Choice.{choose}
 use Rattle.rules.specs.Fraction.{integer, whole, _/ℚ_, nearest}
 use Rattle.rules.specs.Matrix.{Matrix, logC3Matrix, logC4Matrix, matrixOf, entry, rowProduct, acesNumber, IsAces}
-use Rattle.matrix.specs.Row.{Number, MatrixFits, wide, wideRows}
+use Rattle.curve.proofs.Tests.{every, nth, passes}
+use Rattle.matrix.specs.Row.{Number, RowFits, MatrixFits, wide, wideRows}
+use Rattle.matrix.specs.Inverse.{logC3Inverse, logC4Inverse, inverseRows}
 
 -- a quotient to the nearest, over naturals
 pub nearest-of : (S : ℤ) (s : ℕ) → nearest (integer S /ℚ whole s) ≡ shrZ (subℕ (2 * up S + s) (2 * dn S)) (2 * s)
@@ -95,7 +97,7 @@ wider-row : (a b c x y z : ℤ)
 wider-row a b c x y z = ap (λ (w : ℤ). nearest (integer w /ℚ whole (10 ^ 18))) (scaled a b c x y z) ∙ wider (a *ℤ x +ℤ b *ℤ y +ℤ c *ℤ z)
 
 -- the entries over 10 ^ 18, of curve 3 where b
-abbrev entries : Bool → List (List ℤ)
+abbrev pub entries : Bool → List (List ℤ)
 entries b = choose b (map (map (λ e. e *ℤ pos (10 ^ 12))) (logC3Matrix .rows)) (logC4Matrix .rows)
 
 -- the entries over 10 ^ 18 give the ACES numbers of the published matrix
@@ -113,20 +115,35 @@ wide-is s x y z = go (eqb (s .curve) 3)
         }
     go false = record { red-is = refl; green-is = refl; blue-is = refl }
 
--- their entries fit
+-- ---- the entries of a matrix fit, by tests that compute
+abbrev small : List (List ℤ) → (i j : ℕ) → Bool
+small m i j = leb (natAbs (entry (wide m) i j)) 2099999000000000000
+
+abbrev rowSmall : List (List ℤ) → (i : ℕ) → List Bool
+rowSmall m i = small m i 0 ∷ small m i 1 ∷ small m i 2 ∷ []
+
+row-fits : (m : List (List ℤ)) (i : ℕ) → T (every (rowSmall m i)) → RowFits m i
+unfolding nth
+row-fits m i t =
+    record {
+      first = record { small = leb→le _ _ (passes (rowSmall m i) t 0) };
+      second = record { small = leb→le _ _ (passes (rowSmall m i) t 1) };
+      third = record { small = leb→le _ _ (passes (rowSmall m i) t 2) };
+    }
+
+matrix-fits : (m : List (List ℤ)) → T (every (rowSmall m 0)) → T (every (rowSmall m 1)) → T (every (rowSmall m 2)) → MatrixFits m
+matrix-fits m r g b = record { red = row-fits m 0 r; green = row-fits m 1 g; blue = row-fits m 2 b }
+
 pub all-fit : (s : Setting) → MatrixFits (wideRows s)
 all-fit s = go (eqb (s .curve) 3)
   where
     go : (b : Bool) → MatrixFits (entries b)
-    go true =
-        record {
-          red = record { first = record { small = lit≤ tt }; second = record { small = lit≤ tt }; third = record { small = lit≤ tt } };
-          green = record { first = record { small = lit≤ tt }; second = record { small = lit≤ tt }; third = record { small = lit≤ tt } };
-          blue = record { first = record { small = lit≤ tt }; second = record { small = lit≤ tt }; third = record { small = lit≤ tt } };
-        }
-    go false =
-        record {
-          red = record { first = record { small = lit≤ tt }; second = record { small = lit≤ tt }; third = record { small = lit≤ tt } };
-          green = record { first = record { small = lit≤ tt }; second = record { small = lit≤ tt }; third = record { small = lit≤ tt } };
-          blue = record { first = record { small = lit≤ tt }; second = record { small = lit≤ tt }; third = record { small = lit≤ tt } };
-        }
+    go true = matrix-fits (entries true) tt tt tt
+    go false = matrix-fits (entries false) tt tt tt
+
+pub inverse-fits : (s : Setting) → MatrixFits (inverseRows s)
+inverse-fits s = go (eqb (s .curve) 3)
+  where
+    go : (b : Bool) → MatrixFits (choose b logC3Inverse logC4Inverse)
+    go true = matrix-fits logC3Inverse tt tt tt
+    go false = matrix-fits logC4Inverse tt tt tt

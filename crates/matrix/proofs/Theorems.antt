@@ -18,7 +18,7 @@ use Rattle.matrix.specs.Row.{Number}
 use Rattle.matrix.proofs.Scales.{greys-stay}
 use Rattle.matrix.proofs.TwoUnits.{matrix-two-units}
 
-limited : (u : ℕ) → u ≤ 2 ^ 40 → Number (subℕ u offset)
+limited : (u : ℕ) → u ≤ 2 ^ 33 → Number (subℕ u offset)
 limited u h = record { small = omega (arith, abs-is (subℕ u offset), one-zero (subℕ u offset), sub-dif u offset) }
 
 -- a decoded number may be taken to ACES

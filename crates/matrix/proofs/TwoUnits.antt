@@ -8,8 +8,8 @@ use native.Mathlib.Omega.{arith}
 use lib.Dec.{lit<}
 use lib.IntN.{ℤ, pos, negsuc, natAbs, subℕ, _+ℤ_, _*ℤ_}
 use Rattle.whole.specs.Parts.{up, dn}
-use Rattle.whole.proofs.Reflect.{at, add, mul, dif, eqN, sub-dif}
-use Rattle.whole.proofs.Floor.{modZ, modZ-lt, floor-mod}
+use Rattle.whole.proofs.Reflect.{at, add, mul, dif}
+use Rattle.whole.proofs.Floor.{half-bounds}
 use Rattle.whole.proofs.Tidy.{tidy}
 use Rattle.whole.proofs.Words.{notZ}
 use Rattle.rules.specs.Fraction.{Fraction, whole, integer, _+ℚ_, _-ℚ_, _*ℚ_, _/ℚ_, nearest, Versus}
@@ -66,16 +66,6 @@ is-short : (c y : ℤ) {k : Scale} {n : ℕ} → Close k n y → Short c k n (be
 is-short (pos e) y h = h .under
 is-short (negsuc e) y h = h .over
 
--- a quotient to the nearest, by its two bounds
-rounded : (S : ℤ) (s : ℕ) → 0 < s → (A : ℤ) → A ≡ nearest (integer S /ℚ whole s)
-    → (up A * (2 * s) + 2 * dn S ≤ 2 * up S + s + dn A * (2 * s)) × (2 * up S + s + dn A * (2 * s) < up A * (2 * s) + 2 * s + 2 * dn S)
-rounded S s h A e =
-    let d = subℕ (2 * up S + s) (2 * dn S) in
-    let f : A *ℤ pos (2 * s) +ℤ pos (modZ d (2 * s)) ≡ d = ap (λ (q : ℤ). q *ℤ pos (2 * s) +ℤ pos (modZ d (2 * s))) (e ∙ nearest-of S s) ∙ floor-mod d (2 * s) (omega arith) in
-    let g = eqN (add (mul (at A) (at (pos (2 * s)))) (at (pos (modZ d (2 * s))))) (at d) f in
-    let r = modZ-lt d (2 * s) (omega arith) in
-    (omega (arith, sub-dif (2 * up S + s) (2 * dn S)), omega (arith, sub-dif (2 * up S + s) (2 * dn S)))
-
 -- the row of the three, and its rounding A, in naturals: P - Q is the row with what was added, S the row itself, W the weight
 less-core : (P₀ P₁ P₂ Q₀ Q₁ Q₂ s S⁺ S⁻ A⁺ A⁻ W : ℕ) → P₀ + P₁ + P₂ + S⁻ ≡ Q₀ + Q₁ + Q₂ + S⁺ + W → 2 * W < 3 * s → 2 * S⁺ + s + A⁻ * (2 * s) < A⁺ * (2 * s) + 2 * s + 2 * S⁻
     → P₀ + P₁ + P₂ + A⁻ * s < A⁺ * s + 2 * s + (Q₀ + Q₁ + Q₂)
@@ -110,7 +100,7 @@ module _ (c₀ c₁ c₂ x y z : ℤ) (s : ℕ) (h : 0 < s) (w : 2 * (natAbs c�
       rw (over-is c₀ x, over-is c₁ y, over-is c₂ z, plus-is c₀ x, plus-is c₁ y, plus-is c₂ z, minus-is c₀ x, minus-is c₁ y, minus-is c₂ z)
       (less-shape (up c₀ * plusOf c₀ x + dn c₀ * minusOf c₀ x) (up c₁ * plusOf c₁ y + dn c₁ * minusOf c₁ y) (up c₂ * plusOf c₂ z + dn c₂ * minusOf c₂ z)
       (up c₀ * minusOf c₀ x + dn c₀ * plusOf c₀ x) (up c₁ * minusOf c₁ y + dn c₁ * plusOf c₁ y) (up c₂ * minusOf c₂ z + dn c₂ * plusOf c₂ z) s (up A) (dn A)
-      (less-core _ _ _ _ _ _ s (up S) (dn S) (up A) (dn A) (natAbs c₀ + natAbs c₁ + natAbs c₂) (omega (arith, pushed c₀ x, pushed c₁ y, pushed c₂ z)) w (rounded S s h A refl .1)))
+      (less-core _ _ _ _ _ _ s (up S) (dn S) (up A) (dn A) (natAbs c₀ + natAbs c₁ + natAbs c₂) (omega (arith, pushed c₀ x, pushed c₁ y, pushed c₂ z)) w (half-bounds (up S) (dn S) s h A (nearest-of S s) .1)))
 
   row-greater : Versus Greater ((integer c₀ *ℚ beyond (notZ c₀) x +ℚ integer c₁ *ℚ beyond (notZ c₁) y +ℚ integer c₂ *ℚ beyond (notZ c₂) z) /ℚ whole s) ((integer A -ℚ whole 2) *ℚ unit)
   row-greater =
@@ -118,7 +108,7 @@ module _ (c₀ c₁ c₂ x y z : ℤ) (s : ℕ) (h : 0 < s) (w : 2 * (natAbs c�
       rw (over-is (notZ c₀) x, over-is (notZ c₁) y, over-is (notZ c₂) z, plus-is (notZ c₀) x, plus-is (notZ c₁) y, plus-is (notZ c₂) z, minus-is (notZ c₀) x, minus-is (notZ c₁) y, minus-is (notZ c₂) z)
       (greater-shape (up c₀ * plusOf (notZ c₀) x + dn c₀ * minusOf (notZ c₀) x) (up c₁ * plusOf (notZ c₁) y + dn c₁ * minusOf (notZ c₁) y) (up c₂ * plusOf (notZ c₂) z + dn c₂ * minusOf (notZ c₂) z)
       (up c₀ * minusOf (notZ c₀) x + dn c₀ * plusOf (notZ c₀) x) (up c₁ * minusOf (notZ c₁) y + dn c₁ * plusOf (notZ c₁) y) (up c₂ * minusOf (notZ c₂) z + dn c₂ * plusOf (notZ c₂) z) s (up A) (dn A)
-      (greater-core _ _ _ _ _ _ s (up S) (dn S) (up A) (dn A) (natAbs c₀ + natAbs c₁ + natAbs c₂) (omega (arith, pulled c₀ x, pulled c₁ y, pulled c₂ z)) w (rounded S s h A refl .0)))
+      (greater-core _ _ _ _ _ _ s (up S) (dn S) (up A) (dn A) (natAbs c₀ + natAbs c₁ + natAbs c₂) (omega (arith, pulled c₀ x, pulled c₁ y, pulled c₂ z)) w (half-bounds (up S) (dn S) s h A (nearest-of S s) .0)))
 
 -- THE RULE: each number less than one unit from its exact value, each row's weight below 1.5
 pub two-units : (m : Matrix) (i : ℕ) → 0 < m .scale → 2 * (natAbs (entry m i 0) + natAbs (entry m i 1) + natAbs (entry m i 2)) < 3 * m .scale

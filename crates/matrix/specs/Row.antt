@@ -40,6 +40,15 @@ pub record Entry (c : ℤ) : Type 0 where
 pub record Number (x : ℤ) : Type 0 where
   pub small : natAbs x ≤ 2 ^ 40
 
+-- three numbers of which each is at most k without its sign, and the ACES numbers that the way back tries
+pub record Small3 (k : ℕ) (x y z : ℤ) : Type 0 where
+  pub red : natAbs x ≤ k
+  pub green : natAbs y ≤ k
+  pub blue : natAbs z ≤ k
+
+abbrev pub Given : (a b c : ℤ) → Type 0
+Given a b c = Small3 (2 ^ 38) a b c
+
 -- what is computed in a step fits a word
 pub record Sums (c₀ c₁ c₂ x y z carry : ℤ) : Type 0 where
   pub first : SFits w64 (c₀ *ℤ x)

@@ -1,11 +1,13 @@
-// ACES numbers: a row of the matrix times three scene numbers, over the scale, rounded once.
+// ACES numbers: a row of the matrix times three scene numbers, over the scale, rounded once. And the scene numbers that a way back tries.
 ghost use mathlib.Core.Path.{_≡_};
 ghost use Prim.Native.Nat.{_<_};
 ghost use Rattle.rules.specs.Matrix.{matrixOf, acesNumber, IsAces};
-ghost use Rattle.matrix.specs.Row.{Entry, Number, Sums, RowFits, MatrixFits, low, middle, high, stepOf, rowOf, wide, wideRows};
+ghost use Rattle.matrix.specs.Inverse.{inverseRows, IsCandidate};
+ghost use Rattle.matrix.specs.Row.{Entry, Number, Given, Sums, RowFits, MatrixFits, low, middle, high, stepOf, rowOf, wide, wideRows};
 use rules::Aces;
 use rules::Scene;
 use rules::Setting;
+use rules::Triple;
 
 const BASE: i64 = 1000000;
 
@@ -23,11 +25,39 @@ const LOG_C3: [[i64; 3]; 3] = [
     [2057000000000000, -62563000000000000, 1060506000000000000],
 ];
 
-// The three ACES numbers of a pixel.
-pub struct Triple {
-    pub red: Aces,
-    pub green: Aces,
-    pub blue: Aces,
+// The inverse of each, over 10^18.
+const LOG_C4_INVERSE: [[i64; 3]; 3] = [
+    [
+        1331748922051992428,
+        -191041831151284855,
+        -140707090900707858,
+    ],
+    [-1081026063187816, 992818721501261530, 8262304561926467],
+    [663988214432721, 751513727048606, 998584498058518745],
+];
+
+const LOG_C3_INVERSE: [[i64; 3]; 3] = [
+    [
+        1515987375777148635,
+        -361342725455526675,
+        -154644650321621960,
+    ],
+    [-128327483089980260, 1019314594909953857, 109012888180026404],
+    [-10510962084638870, 60833848170225780, 949677113914413090],
+];
+
+// The three scene numbers that a way back tries.
+pub struct Scenes {
+    pub red: Scene,
+    pub green: Scene,
+    pub blue: Scene,
+}
+
+// Three row products.
+struct Numbers {
+    red: i64,
+    green: i64,
+    blue: i64,
 }
 
 // The digits of an entry to the base 10^6, the lower two not below 0.
@@ -92,20 +122,17 @@ fn row(m: [[i64; 3]; 3], i: usize, x: i64, y: i64, z: i64) -> i64
 }
 
 // The three rows of a matrix over 10^18 times three numbers.
-fn rows(m: [[i64; 3]; 3], x: i64, y: i64, z: i64) -> Triple
+fn rows(m: [[i64; 3]; 3], x: i64, y: i64, z: i64) -> Numbers
     requires { ⌜ MatrixFits m ⌝ }
     requires { ⌜ Number x ⌝ }
     requires { ⌜ Number y ⌝ }
     requires { ⌜ Number z ⌝ }
-    ensures { λ r. ⌜ IsAces (wide m) x y z (r .red .0) (r .green .0) (r .blue .0) ⌝ }
+    ensures { λ r. ⌜ IsAces (wide m) x y z (r .red) (r .green) (r .blue) ⌝ }
 {
-    let red = row(m, 0, x, y, z);
-    let green = row(m, 1, x, y, z);
-    let blue = row(m, 2, x, y, z);
-    Triple {
-        red: Aces(red),
-        green: Aces(green),
-        blue: Aces(blue),
+    Numbers {
+        red: row(m, 0, x, y, z),
+        green: row(m, 1, x, y, z),
+        blue: row(m, 2, x, y, z),
     }
 }
 
@@ -123,5 +150,34 @@ pub fn aces(s: Setting, x: Scene, y: Scene, z: Scene) -> Triple
     requires { ⌜ Number (z .0) ⌝ }
     ensures { λ r. ⌜ IsAces (matrixOf s) (x .0) (y .0) (z .0) (r .red .0) (r .green .0) (r .blue .0) ⌝ }
 {
-    rows(matrix_of(s), x.0, y.0, z.0)
+    let r = rows(matrix_of(s), x.0, y.0, z.0);
+    Triple {
+        red: Aces(r.red),
+        green: Aces(r.green),
+        blue: Aces(r.blue),
+    }
+}
+
+// The inverse of the matrix of a setting, over 10^18.
+fn inverse_of(s: Setting) -> [[i64; 3]; 3]
+    ensures { λ m. ⌜ m ≡ inverseRows s ⌝ }
+{
+    if s.curve == 3 {
+        LOG_C3_INVERSE
+    } else {
+        LOG_C4_INVERSE
+    }
+}
+
+// The scene numbers that a way back tries for three ACES numbers.
+pub fn candidate(s: Setting, a: Triple) -> Scenes
+    requires { ⌜ Given (a .red .0) (a .green .0) (a .blue .0) ⌝ }
+    ensures { λ r. ⌜ IsCandidate s (a .red .0) (a .green .0) (a .blue .0) (r .red .0) (r .green .0) (r .blue .0) ⌝ }
+{
+    let r = rows(inverse_of(s), a.red.0, a.green.0, a.blue.0);
+    Scenes {
+        red: Scene(r.red),
+        green: Scene(r.green),
+        blue: Scene(r.blue),
+    }
 }

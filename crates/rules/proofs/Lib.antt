@@ -3,3 +3,4 @@ pub mod Nearest
 pub mod Settings
 pub mod Records
 pub mod Closest
+pub mod Search

@@ -10,3 +10,4 @@ pub mod Strip
 pub mod Encoding
 pub mod Matrix
 pub mod ExactRow
+pub mod WayBack

@@ -16,6 +16,26 @@ pub struct Scene(pub i64);
 // An ACES number, in units of 2^-24.
 pub struct Aces(pub i64);
 
+// A pixel: its three codes.
+pub struct Pixel {
+    pub red: Code,
+    pub green: Code,
+    pub blue: Code,
+}
+
+// Three ACES numbers.
+pub struct Triple {
+    pub red: Aces,
+    pub green: Aces,
+    pub blue: Aces,
+}
+
+// What the way back finds.
+pub enum Found {
+    Pixel(Pixel),
+    Nothing,
+}
+
 // Why a conversion refuses: the rows of the table "Refused, by the place of the check".
 pub enum Refusal {
     PartialRecord,

@@ -14,7 +14,7 @@ use mir.Val.{SFits, ofZ}
 use mir.ValLaws.{sfits-le}
 use borrow.Author.Tests.{ltb-true}
 use Rattle.whole.specs.Parts.{up, dn}
-use Rattle.whole.proofs.Reflect.{at, add, mul, eqZ, sub-dif}
+use Rattle.whole.proofs.Reflect.{at, add, mul, eqZ, eqN, sub-dif}
 use Rattle.whole.proofs.Words.{notZ}
 
 -- the quotient is the number that leaves a remainder below m
@@ -50,6 +50,16 @@ floor-mod (pos a) m h = ap pos (div-add-mod' a m)
 floor-mod (negsuc a) m h =
     eqZ (add (mul (at (negsuc (a / m))) (at (pos m))) (at (pos ((m - 1) - a % m)))) (at (negsuc a))
     (omega (arith, div-add-mod' a m, mod-lt a h))
+
+-- ---- a quotient to the nearest, a half going up, by its two bounds
+pub half-bounds : (p m o : ℕ) → 0 < o → (y : ℤ) → y ≡ shrZ (subℕ (2 * p + o) (2 * m)) (2 * o)
+    → (up y * (2 * o) + 2 * m ≤ 2 * p + o + dn y * (2 * o)) × (2 * p + o + dn y * (2 * o) < up y * (2 * o) + 2 * o + 2 * m)
+half-bounds p m o h y e =
+    let d = subℕ (2 * p + o) (2 * m) in
+    let f : y *ℤ pos (2 * o) +ℤ pos (modZ d (2 * o)) ≡ d = ap (λ (q : ℤ). q *ℤ pos (2 * o) +ℤ pos (modZ d (2 * o))) e ∙ floor-mod d (2 * o) (omega arith) in
+    let g = eqN (add (mul (at y) (at (pos (2 * o)))) (at (pos (modZ d (2 * o))))) (at d) f in
+    let r = modZ-lt d (2 * o) (omega arith) in
+    (omega (arith, sub-dif (2 * p + o) (2 * m)), omega (arith, sub-dif (2 * p + o) (2 * m)))
 
 -- ---- words: what `/` asks and is at a divisor above 0
 pub above-zero : (m : ℤ) → pos 0 <ℤ m → 0 < ofZ w64 m

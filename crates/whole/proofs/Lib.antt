@@ -5,3 +5,4 @@ pub mod Floor
 pub mod Tidy
 pub mod Sizes
 pub mod Words
+pub mod Near

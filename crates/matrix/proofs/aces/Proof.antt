@@ -28,9 +28,11 @@ published s {x = x} {y = y} {z = z} {r = r} {g = g} {b = b} e a =
 
 returns : tie.Need-returns
 returns c =
-    let s = c .before .before .before .before .before in
-    published (s .args .s) (c .before .before .before .before .matrix-of .ensures)
-    (rw (read-back (number-fits (s .pre .0)), read-back (number-fits (s .pre .1 .0)), read-back (number-fits (s .pre .1 .1))) at (c .rows .ensures))
+    let r = c .before .before .before in
+    let s = r .before .before .before .before .before in
+    rw (read-back {z = r .rows .result .red} (record { sfits = r .rows .ok .1 .1 .0 .1 }), read-back {z = r .rows .result .green} (record { sfits = r .rows .ok .1 .1 .1 .0 .1 }), read-back {z = r .rows .result .blue} (record { sfits = r .rows .ok .1 .1 .1 .1 .0 .1 }))
+    (published (s .args .s) (r .before .before .before .before .matrix-of .ensures)
+    (rw (read-back (number-fits (s .pre .0)), read-back (number-fits (s .pre .1 .0)), read-back (number-fits (s .pre .1 .1))) at (r .rows .ensures)))
 
 pub aces-spec : {M : Type 1} → statement M
 aces-spec = tie.close (tie.spec (λ c κs. search needs) rows-requires returns)

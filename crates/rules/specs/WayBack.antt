@@ -1,0 +1,69 @@
+-- 01, "ACES and the way back": the ACES numbers that a pixel gives, and the pixel that gives three numbers. Of a setting these need the
+-- decoded number of each code, the matrix, and the top code.
+-- Assumes nothing.
+use mathlib.Core.Bool.{Bool, false}
+use mathlib.Core.Path.{_≡_}
+use Prim.Native.Nat.{ℕ, zero, suc}
+use lib.IntN.{ℤ}
+use lib.Signed.{leZ}
+use Rattle.rules.specs.declared.Check.{Check}
+use Rattle.rules.specs.declared.Check.the-variants.{Passed, Refused}
+use Rattle.rules.specs.declared.Refusal.the-variants.{NoPixel}
+use Rattle.rules.specs.declared.Setting.{Setting}
+use Rattle.rules.specs.declared.Pixel.{Pixel}
+use Rattle.rules.specs.declared.Triple.{Triple}
+use Rattle.rules.specs.declared.Found.{Found}
+use Rattle.rules.specs.declared.Found as found
+use Rattle.rules.specs.Choice.{choose}
+use Rattle.rules.specs.Setting.{codeCheck}
+use Rattle.rules.specs.Matrix.{Matrix, acesNumber}
+
+-- "A pixel of a valid setting is three codes that each pass the channel checks on codes."
+pub record IsPixel (s : Setting) (p : Pixel) : Type 0 where
+  pub red : codeCheck s (p .red .0) ≡ Passed
+  pub green : codeCheck s (p .green .0) ≡ Passed
+  pub blue : codeCheck s (p .blue .0) ≡ Passed
+
+-- three codes, three ACES numbers
+abbrev pub pixel : (r g b : ℕ) → Pixel
+pixel r g b = record { red = record { 0 = r }; green = record { 0 = g }; blue = record { 0 = b } }
+
+abbrev pub triple : (x y z : ℤ) → Triple
+triple x y z = record { red = record { 0 = x }; green = record { 0 = y }; blue = record { 0 = z } }
+
+-- "the pixel's three ACES numbers"
+abbrev pub acesOf : (number : ℕ → ℤ) → Matrix → Pixel → Triple
+acesOf number m p =
+    triple (acesNumber m 0 (number (p .red .0)) (number (p .green .0)) (number (p .blue .0)))
+    (acesNumber m 1 (number (p .red .0)) (number (p .green .0)) (number (p .blue .0)))
+    (acesNumber m 2 (number (p .red .0)) (number (p .green .0)) (number (p .blue .0)))
+
+-- a test that two are equal
+abbrev pub equal : ℤ → ℤ → Bool
+equal x y = choose (leZ x y) (leZ y x) false
+
+unfoldable pub equal3 : Triple → Triple → Bool
+equal3 a b = choose (equal (a .red .0) (b .red .0)) (choose (equal (a .green .0) (b .green .0)) (equal (a .blue .0) (b .blue .0)) false) false
+
+-- the first where it found something, else the second
+abbrev pub orElse : Found → Found → Found
+orElse (found.Found.Pixel p) next = found.Found.Pixel p
+orElse found.Found.Nothing next = next
+
+-- of the codes 0 to top the first with which something is found
+unfoldable pub firstFound : (ℕ → Found) → (top : ℕ) → Found
+firstFound f zero = f 0
+firstFound f (suc k) = orElse (firstFound f k) (f (suc k))
+
+-- "The way back takes any three signed numbers and returns the pixel of that setting with exactly that ACES triple": the first of all pixels,
+-- in the order of their codes, that has it
+abbrev pub tried : (number : ℕ → ℤ) → Matrix → Triple → Pixel → Found
+tried number m a p = choose (equal3 a (acesOf number m p)) (found.Found.Pixel p) found.Found.Nothing
+
+unfoldable pub pixelWith : (number : ℕ → ℤ) → Matrix → (top : ℕ) → Triple → Found
+pixelWith number m top a = firstFound (λ r. firstFound (λ g. firstFound (λ b. tried number m a (pixel r g b)) top) top) top
+
+-- refusal 10: "no pixel of this setting has this triple"
+abbrev pub foundCheck : Found → Check
+foundCheck (found.Found.Pixel p) = Passed
+foundCheck found.Found.Nothing = Refused NoPixel
