@@ -1,9 +1,10 @@
 -- DEMANDS 2 and 3, the ACES numbers of a pixel, for every valid setting.
 -- Assumes nothing.
 use Prim.Native.Nat.{ℕ, _+_, _^_, _≤_, _<_}
+use native.Mathlib.Nat.{le-trans}
 use native.Mathlib.Omega.{arith}
-use lib.Dec.{eqb}
-use lib.IntN.{ℤ, subℕ}
+use lib.Dec.{eqb, lit≤}
+use lib.IntN.{ℤ, natAbs, subℕ}
 use Rattle.whole.specs.Parts.{up, dn}
 use Rattle.whole.proofs.Reflect.{abs-is, one-zero, sub-dif}
 use Rattle.rules.specs.declared.Setting.{Setting}
@@ -18,12 +19,15 @@ use Rattle.matrix.specs.Row.{Number}
 use Rattle.matrix.proofs.Scales.{greys-stay}
 use Rattle.matrix.proofs.TwoUnits.{matrix-two-units}
 
-limited : (u : ℕ) → u ≤ 2 ^ 33 → Number (subℕ u offset)
-limited u h = record { small = omega (arith, abs-is (subℕ u offset), one-zero (subℕ u offset), sub-dif u offset) }
+limited : (u : ℕ) → u ≤ 2 ^ 33 → natAbs (subℕ u offset) ≤ 2 ^ 33
+limited u h = omega (arith, abs-is (subℕ u offset), one-zero (subℕ u offset), sub-dif u offset)
 
 -- a decoded number may be taken to ACES
+pub decoded-small : (s : Setting) → Valid s → (n : ℕ) → n ≤ topOf (s .width) → natAbs (decoded s n) ≤ 2 ^ 33
+decoded-small s v n h = limited (raw s n) (raw-limited s v n h)
+
 pub decoded-number : (s : Setting) → Valid s → (n : ℕ) → n ≤ topOf (s .width) → Number (decoded s n)
-decoded-number s v n h = limited (raw s n) (raw-limited s v n h)
+decoded-number s v n h = record { small = le-trans (decoded-small s v n h) (lit≤ tt) }
 
 -- "greys stay grey": three equal codes give three equal ACES numbers, and these are the code's decoded number
 pub equal-codes : (s : Setting) → Valid s → (n : ℕ) → n ≤ topOf (s .width)

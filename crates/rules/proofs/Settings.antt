@@ -4,6 +4,7 @@ use mathlib.Core.Bool.{Bool, true, false}
 use mathlib.Core.List.{List, [], _∷_}
 use mathlib.Core.Path.{_≡_, refl, sym, subst}
 use Prim.Native.Nat.{ℕ, _≤_}
+use borrow.Author.Tests.{le-leb}
 use lib.Dec.{T, eqb, eqb→eq, leb, leb→le}
 use Rattle.rules.specs.declared.Setting.{Setting}
 use Rattle.rules.specs.declared.Check.{Check}
@@ -85,3 +86,6 @@ for-valid p h s v =
 -- a code that passes is at most the top code
 pub code-passed : (s : Setting) (n : ℕ) → codeCheck s n ≡ Passed → n ≤ topOf (s .width)
 code-passed s n e = leb→le n (topOf (s .width)) (passed-only (leb n (topOf (s .width))) CodeAboveTop e)
+
+pub code-passes : (s : Setting) (n : ℕ) → n ≤ topOf (s .width) → codeCheck s n ≡ Passed
+code-passes s n h = rw (le-leb n (topOf (s .width)) h)

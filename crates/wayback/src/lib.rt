@@ -3,8 +3,10 @@ ghost use mathlib.Core.Path.{_≡_};
 ghost use Rattle.rules.specs.declared.Check.the-variants.{Passed};
 ghost use Rattle.rules.specs.declared.Found as found;
 ghost use Rattle.rules.specs.Setting.{Valid};
-ghost use Rattle.rules.specs.WayBack.{IsPixel, equal, equal3, foundCheck};
+ghost use Rattle.rules.specs.Matrix.{matrixOf};
+ghost use Rattle.rules.specs.WayBack.{IsPixel, equal, equal3, tried, foundCheck};
 ghost use Rattle.matrix.specs.Row.{Given};
+ghost use Rattle.curve.specs.Decoded.{decoded};
 ghost use Rattle.curve.specs.Ready.{Ready};
 ghost use Rattle.wayback.specs.Back.{pixelAces, pixelFor, backAnswer};
 ghost use Rattle.wayback.specs.Candidate.{inReach, allInReach, candidatePixel};
@@ -49,7 +51,15 @@ fn in_reach(a: Aces) -> bool
 fn all_in_reach(a: Triple) -> bool
     ensures { λ r. ⌜ r ≡ allInReach a ⌝ }
 {
-    in_reach(a.red) && in_reach(a.green) && in_reach(a.blue)
+    if in_reach(a.red) {
+        if in_reach(a.green) {
+            in_reach(a.blue)
+        } else {
+            false
+        }
+    } else {
+        false
+    }
 }
 
 fn same(a: Aces, b: Aces) -> bool
@@ -63,7 +73,15 @@ fn same(a: Aces, b: Aces) -> bool
 fn same_triple(a: Triple, b: Triple) -> bool
     ensures { λ r. ⌜ r ≡ equal3 a b ⌝ }
 {
-    same(a.red, b.red) && same(a.green, b.green) && same(a.blue, b.blue)
+    if same(a.red, b.red) {
+        if same(a.green, b.green) {
+            same(a.blue, b.blue)
+        } else {
+            false
+        }
+    } else {
+        false
+    }
 }
 
 // The only pixel that can give the numbers.
@@ -80,17 +98,26 @@ fn candidate(s: Setting, d: Decoder, t: &[u64; 128], a: Triple) -> Pixel
     }
 }
 
+// A pixel, where it gives the numbers.
+fn try_pixel(s: Setting, d: Decoder, t: &[u64; 128], p: Pixel, a: Triple) -> Found
+    requires { ⌜ Ready s d (now t) ⌝ }
+    requires { ⌜ IsPixel s p ⌝ }
+    ensures { λ f. ⌜ f ≡ tried (decoded s) (matrixOf s) a p ⌝ }
+{
+    if same_triple(a, to_aces(s, d, t, p)) {
+        Found::Pixel(p)
+    } else {
+        Found::Nothing
+    }
+}
+
 // The pixel that gives the numbers: the candidate, where it gives them.
 pub fn find(s: Setting, d: Decoder, t: &[u64; 128], a: Triple) -> Found
     requires { ⌜ Ready s d (now t) ⌝ }
     ensures { λ f. ⌜ f ≡ pixelFor s a ⌝ }
 {
-    if !all_in_reach(a) {
-        return Found::Nothing;
-    }
-    let p = candidate(s, d, t, a);
-    if same_triple(a, to_aces(s, d, t, p)) {
-        Found::Pixel(p)
+    if all_in_reach(a) {
+        try_pixel(s, d, t, candidate(s, d, t, a), a)
     } else {
         Found::Nothing
     }

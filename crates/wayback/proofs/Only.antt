@@ -1,0 +1,119 @@
+-- The candidate is the only pixel that can give three ACES numbers; so trying it says what gives them.
+-- Assumes nothing.
+use mathlib.Core.Bool.{Bool, true, false}
+use mathlib.Core.Path.{_≡_, refl, sym, ap, _∙_, subst}
+use Prim.Native.Nat.{ℕ, _≤_, _^_}
+use native.Mathlib.Omega.{arith}
+use lib.Dec.{T, lit<, lit≤}
+use lib.IntN.{ℤ}
+use Rattle.whole.proofs.Near.{near-more}
+use Rattle.rules.specs.declared.Pixel.{Pixel}
+use Rattle.rules.specs.declared.Setting.{Setting}
+use Rattle.rules.specs.declared.Triple.{Triple}
+use Rattle.rules.specs.declared.Check.{Check}
+use Rattle.rules.specs.declared.Check.the-variants.{Passed, Refused}
+use Rattle.rules.specs.declared.Refusal.the-variants.{NoPixel}
+use Rattle.rules.specs.declared.Found.{Found}
+use Rattle.rules.specs.declared.Found as found
+use Rattle.rules.specs.Setting.{topOf, Valid}
+use Rattle.rules.specs.Matrix.{matrixOf, IsAces}
+use Rattle.rules.specs.Choice.{choose}
+use Rattle.rules.specs.WayBack.{IsPixel, equal3, tried, pixelWith, foundCheck}
+use Rattle.rules.proofs.Settings.{code-passes}
+use Rattle.rules.proofs.Search as search
+use Rattle.curve.specs.Decoded.{decoded}
+use Rattle.encode.specs.Encoded.{encoded}
+use Rattle.encode.proofs.Theorems.{encoded-nearest, encode-near}
+use Rattle.matrix.specs.Row.{Small3, Given}
+use Rattle.matrix.specs.Inverse.{candidate}
+use Rattle.matrix.proofs.Inverse.{aces-small, candidate-near}
+use Rattle.matrix.proofs.Theorems.{decoded-small}
+use Rattle.wayback.specs.Back.{pixelAces, pixelFor}
+use Rattle.wayback.specs.Candidate.{codeFor, candidatePixel, allInReach}
+use Rattle.wayback.proofs.Reach.{given-reached, reached-given}
+
+refused-passed : {A : Type 0} → Refused NoPixel ≡ Passed → A
+refused-passed e = absurd (subst IsRefused e tt)
+  where
+    IsRefused : Check → Type 0
+    IsRefused Passed = ⊥
+    IsRefused (Refused why) = Unit {0}
+
+-- a pixel of the setting that gives the numbers
+abbrev pub PixelGives : Setting → Triple → Pixel → Type 0
+PixelGives s a q = search.Gives (decoded s) (matrixOf s) (topOf (s .width)) a q
+
+module _ (s : Setting) (v : Valid s) (a : Triple) where
+  module _ (q : Pixel) (g : PixelGives s a q) where
+    scenes-small : Small3 (2 ^ 33) (decoded s (q .red .0)) (decoded s (q .green .0)) (decoded s (q .blue .0))
+    scenes-small = record { red = decoded-small s v (q .red .0) (g .red); green = decoded-small s v (q .green .0) (g .green); blue = decoded-small s v (q .blue .0) (g .blue) }
+
+    is-aces : IsAces (matrixOf s) (decoded s (q .red .0)) (decoded s (q .green .0)) (decoded s (q .blue .0)) (a .red .0) (a .green .0) (a .blue .0)
+    is-aces = record { red-is = ap (λ (t : Triple). t .red .0) (g .numbers); green-is = ap (λ (t : Triple). t .green .0) (g .numbers); blue-is = ap (λ (t : Triple). t .blue .0) (g .numbers) }
+
+    -- its numbers are in reach
+    pub reached : allInReach a ≡ true
+    reached = given-reached a (aces-small s _ _ _ scenes-small is-aces)
+
+    red-code : codeFor s 0 a ≡ q .red .0
+    red-code = encode-near s v (candidate s 0 (a .red .0) (a .green .0) (a .blue .0)) (q .red .0) (g .red) (near-more (lit≤ tt) (candidate-near s _ _ _ scenes-small is-aces 0 (lit< tt)))
+
+    green-code : codeFor s 1 a ≡ q .green .0
+    green-code = encode-near s v (candidate s 1 (a .red .0) (a .green .0) (a .blue .0)) (q .green .0) (g .green) (near-more (lit≤ tt) (candidate-near s _ _ _ scenes-small is-aces 1 (lit< tt)))
+
+    blue-code : codeFor s 2 a ≡ q .blue .0
+    blue-code = encode-near s v (candidate s 2 (a .red .0) (a .green .0) (a .blue .0)) (q .blue .0) (g .blue) (near-more (lit≤ tt) (candidate-near s _ _ _ scenes-small is-aces 2 (lit< tt)))
+
+    -- THE ONLY PIXEL: what gives the numbers is the candidate
+    pub only-candidate : q ≡ candidatePixel s a
+    only-candidate = λ i. record { red = record { 0 = sym red-code i }; green = record { 0 = sym green-code i }; blue = record { 0 = sym blue-code i } }
+
+  candidate-gives : equal3 a (pixelAces s (candidatePixel s a)) ≡ true → PixelGives s a (candidatePixel s a)
+  candidate-gives e =
+      record {
+        red = encoded-nearest s (candidate s 0 (a .red .0) (a .green .0) (a .blue .0)) .in-range;
+        green = encoded-nearest s (candidate s 1 (a .red .0) (a .green .0) (a .blue .0)) .in-range;
+        blue = encoded-nearest s (candidate s 2 (a .red .0) (a .green .0) (a .blue .0)) .in-range;
+        numbers = search.equal3-is a (pixelAces s (candidatePixel s a)) e;
+      }
+
+  pub candidate-is-pixel : IsPixel s (candidatePixel s a)
+  candidate-is-pixel =
+      record {
+        red = code-passes s (codeFor s 0 a) (encoded-nearest s (candidate s 0 (a .red .0) (a .green .0) (a .blue .0)) .in-range);
+        green = code-passes s (codeFor s 1 a) (encoded-nearest s (candidate s 1 (a .red .0) (a .green .0) (a .blue .0)) .in-range);
+        blue = code-passes s (codeFor s 2 a) (encoded-nearest s (candidate s 2 (a .red .0) (a .green .0) (a .blue .0)) .in-range);
+      }
+
+  -- ---- what the way back finds
+  unlike : {x : Bool} {A : Type 0} → x ≡ true → x ≡ false → A
+  unlike e f = absurd (subst T (sym e ∙ f) tt)
+
+  pub out-of-reach : allInReach a ≡ false → found.Found.Nothing ≡ pixelFor s a
+  unfolding pixelFor
+  out-of-reach e = sym (search.none-found (decoded s) (matrixOf s) (topOf (s .width)) a (λ q g. unlike (reached q g) e))
+
+  pub trying-finds : tried (decoded s) (matrixOf s) a (candidatePixel s a) ≡ pixelFor s a
+  unfolding pixelFor
+  trying-finds = go (equal3 a (pixelAces s (candidatePixel s a))) refl
+    where
+      go : (x : Bool) → equal3 a (pixelAces s (candidatePixel s a)) ≡ x → choose x (found.Found.Pixel (candidatePixel s a)) found.Found.Nothing ≡ pixelWith (decoded s) (matrixOf s) (topOf (s .width)) a
+      go true e = sym (search.gives-found (decoded s) (matrixOf s) (topOf (s .width)) a (candidatePixel s a) only-candidate (candidate-gives e))
+      go false e =
+          sym
+          (search.none-found (decoded s) (matrixOf s) (topOf (s .width)) a
+          (λ q g. unlike (ap (λ (b : Triple). equal3 a b) (ap (pixelAces s) (sym (only-candidate q g)) ∙ sym (g .numbers)) ∙ search.equal3-same a) e))
+
+  -- and what it finds is the candidate
+  abbrev Found′ : Found → Type 0
+  Found′ f = (Given (a .red .0) (a .green .0) (a .blue .0)) × (found.Found.Pixel (candidatePixel s a) ≡ f)
+
+  pub passed-found : foundCheck (pixelFor s a) ≡ Passed → Found′ (pixelFor s a)
+  unfolding pixelFor
+  passed-found e = go (pixelFor s a) refl e
+    where
+      go : (f : Found) → pixelFor s a ≡ f → foundCheck f ≡ Passed → Found′ f
+      go (found.Found.Pixel p) g e =
+          let h = search.found-gives (decoded s) (matrixOf s) (topOf (s .width)) a p g in
+          (reached-given a (reached p h), ap found.Found.Pixel (sym (only-candidate p h)))
+      go found.Found.Nothing g e = refused-passed e
