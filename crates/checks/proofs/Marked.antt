@@ -30,7 +30,7 @@ use Rattle.rules.specs.Strip.{answerOf}
 use Rattle.curve.specs.Decoded.{offset, raw, decoded}
 use Rattle.curve.proofs.Limit.{raw-limited}
 use Rattle.encode.proofs.Theorems.{nearest-only, encoded-last}
-use Rattle.strip.specs.Conversions.{pixelToScene}
+use Rattle.conversion.specs.Conversions.{pixelToScene}
 use Rattle.checks.specs.Marked.{Marked, setting, limit}
 
 abbrev curve4 : Scale

@@ -21,7 +21,7 @@ use Rattle.rules.specs.Encoding.{IsNearest, sceneCheck}
 use Rattle.rules.specs.Matrix.{matrixOf, IsAces}
 use Rattle.rules.specs.Strip.{answerOf}
 use Rattle.curve.specs.Decoded.{decoded}
-use Rattle.strip.specs.Conversions.{pixelToScene}
+use Rattle.conversion.specs.Conversions.{pixelToScene}
 
 abbrev pub setting : (curve width ei : ℕ) → Setting
 setting curve width ei = record { curve = curve; width = width; ei = ei }

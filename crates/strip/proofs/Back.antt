@@ -20,15 +20,10 @@ use Rattle.rules.specs.Choice.{choose}
 use Rattle.rules.specs.Record.{IsBytes}
 use Rattle.rules.specs.Strip.{Conversion, recordCheck, records, written, scan, scanOf, answerOf, outputAfter}
 use Rattle.rules.proofs.Records.{take-bytes, drop-bytes}
+use Rattle.conversion.proofs.Good.{Good}
 use Rattle.strip.proofs.Cut.{length-written}
 use Rattle.strip.proofs.FirstPass.{go-on, never, counted}
 use Rattle.strip.proofs.Join.{whole-answer}
-
--- a record that is whole and not refused
-pub record Good (c : Conversion) (r : List ℕ) : Type 0 where
-  pub long : length r ≡ c .from
-  pub bytes : IsBytes r
-  pub passes : recordCheck c r ≡ check.Check.Passed
 
 -- each of the records is one
 abbrev pub AllGood : Conversion → List (List ℕ) → Type 0

@@ -1,14 +1,15 @@
 -- The records of a strip, as a loop over them cuts them out.
 -- Assumes nothing.
-use mathlib.Core.Path.{_≡_, refl, ap, sym, _∙_}
+use mathlib.Core.Path.{_≡_, refl, ap, _∙_}
 use mathlib.Core.List.{List, [], _∷_, _++_, append-assoc, append-nil}
 use Prim.Native.Nat.{ℕ, zero, suc, _+_, _-_, _*_, _≤_, _<_}
 use native.Mathlib.Nat.{mul-le-mul-right, zero-mul, suc-mul, sub-zero, sub-self}
 use native.Mathlib.Numerals.{add-one}
 use native.Mathlib.Omega.{arith}
-use lib.ListN.{length, take, drop, length-append}
-use lib.Seq.{drop-drop, take-at, drop-at}
+use lib.ListN.{length, take, drop, length-append, length-take, length-drop}
+use lib.Seq.{drop-drop}
 use Rattle.rules.specs.Strip.{records, written}
+use Rattle.records.proofs.Stretch.{span}
 
 -- the k-th record, `&input[k * size..k * size + size]`
 abbrev pub cut : ℕ → ℕ → List ℕ → List ℕ
@@ -18,9 +19,6 @@ cut size k s = take (k * size + size - k * size) (drop (k * size) s)
 abbrev pub rest : ℕ → ℕ → ℕ → List ℕ → List (List ℕ)
 rest size n k s = records size (n - k) (drop (k * size) s)
 
-pub span : (a b : ℕ) → a + b - a ≡ b
-span a b = omega arith
-
 pub next : (k size : ℕ) → (k + 1) * size ≡ k * size + size
 next k size = rw (add-one, suc-mul)
 
@@ -29,6 +27,13 @@ pub room-at : (k n size from len : ℕ) → size ≡ from → k < n → n * from
 room-at k n size from len e h room =
     let le : (k + 1) * from ≤ n * from = mul-le-mul-right from (rw add-one h) in
     rw (e, ← next k from) (omega arith)
+
+-- the record that the code cuts out, at the size that it has
+pub cut-at : (k : ℕ) (s : List ℕ) {size from : ℕ} → size ≡ from → cut size k s ≡ cut from k s
+cut-at k s e = ap (λ (m : ℕ). cut m k s) e
+
+pub length-cut : (k : ℕ) (s : List ℕ) {size from : ℕ} → size ≡ from → k * size + size ≤ length s → length (cut size k s) ≡ from
+length-cut k s e h = simp (length-take, length-drop) (omega arith)
 
 drop-next : (size k : ℕ) (s : List ℕ) → drop size (drop (k * size) s) ≡ drop ((k + 1) * size) s
 drop-next size k s = rw (next, drop-drop)

@@ -1,7 +1,7 @@
 -- The first pass: a loop that checks each record.
 -- Assumes nothing.
 use mathlib.Core.Path.{_≡_, refl, ap, sym, _∙_, subst}
-use mathlib.Core.List.{List, [], _∷_}
+use mathlib.Core.List.{List}
 use Prim.Native.Nat.{ℕ, zero, suc, _+_, _-_, _*_, _≤_, _<_}
 use native.Mathlib.Nat.{le-antisymm, zero-mul, suc-mul}
 use native.Mathlib.Numerals.{add-one}
@@ -13,8 +13,16 @@ use Rattle.rules.specs.declared.Answer.the-variants.{Done, Refused}
 use Rattle.rules.specs.declared.Check.{Check}
 use Rattle.rules.specs.declared.Check as check
 use Rattle.rules.specs.declared.Refusal.{Refusal}
+use Rattle.rules.specs.Refusal.{then}
+use Rattle.rules.specs.Setting.{settingCheck}
+use Rattle.rules.specs.Record.{settingOf}
 use Rattle.rules.specs.Strip.{Conversion, recordCheck, records, orNext, scan, scanOf}
-use Rattle.strip.proofs.Cut.{cut, span, rest, rest-start, rest-next, rest-end}
+use Rattle.records.proofs.Stretch.{span}
+use Rattle.strip.proofs.Cut.{cut, rest, rest-start, rest-next, rest-end}
+
+-- a record's check, where its setting's answers x
+pub setting-decides : (c : Conversion) (r : List ℕ) {x : Check} → settingCheck (settingOf r) ≡ x → recordCheck c r ≡ then x (c .inner r)
+setting-decides c r e = ap (λ (y : Check). then y (c .inner r)) e
 
 -- where the pass stands at the k-th of n records: it is to answer what the records from there on say
 pub record Scanned (c : Conversion) (n : ℕ) (input : List ℕ) (k : ℕ) : Type 0 where

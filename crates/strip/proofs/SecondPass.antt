@@ -1,40 +1,21 @@
 -- The second pass: a loop that writes each record in its own stretch.
 -- Assumes nothing.
-use mathlib.Core.Path.{_≡_, refl, ap, sym, _∙_, subst}
-use mathlib.Core.List.{List, [], _∷_, _++_, append-assoc, append-nil}
+use mathlib.Core.Path.{_≡_, refl, ap, _∙_, subst}
+use mathlib.Core.List.{List, _++_}
 use Prim.Native.Nat.{ℕ, _+_, _-_, _*_, _≤_, _<_}
 use native.Mathlib.Nat.{le-antisymm, mul-le-mul-right, zero-mul}
 use native.Mathlib.Omega.{arith}
-use lib.ListN.{length, take, drop, length-append, length-drop, drop-of-length-le}
-use lib.Seq.{drop-drop, take-at, drop-at}
+use lib.ListN.{length, drop, length-append, length-drop}
 use Rattle.rules.specs.declared.Answer.the-variants.{Done}
 use Rattle.rules.specs.Strip.{Conversion, records, written, outputAfter}
-use Rattle.strip.proofs.Cut.{cut, span, next, records-more, written-append, written-one, length-written}
+use Rattle.records.proofs.Stretch.{pasted, behind}
+use Rattle.strip.proofs.Cut.{cut, next, records-more, written-append, written-one, length-written}
 
 -- where the pass stands at the k-th of n records: what is written so far, and the rest of the output as it was
 pub record Filled (c : Conversion) (n : ℕ) (input output : List ℕ) (k : ℕ) (after : List ℕ) : Type 0 where
   pub upto : k ≤ n
   pub long : length after ≡ length output
   pub is : after ≡ written (c .bytes) (records (c .from) k input) ++ drop (k * c .to) output
-
--- a list after a stretch of it was lent, `&mut after[a..e]`, and came back as `part`
-abbrev pub pasted : List ℕ → ℕ → ℕ → List ℕ → List ℕ
-pasted after a e part = take a after ++ (part ++ drop (e - a) (drop a after))
-
--- a stretch that is written right behind what is written so far
-behind : (W output after part : List ℕ) (a size : ℕ) → length W ≡ a → after ≡ W ++ drop a output → pasted after a (a + size) part ≡ (W ++ part) ++ drop (a + size) output
-behind W output after part a size lw e =
-    rw (e, take-at W (drop a output) a lw, drop-at W (drop a output) a lw, span a size, drop-drop, append-assoc)
-
--- the same, of a stretch that is known
-pub onward : (a size : ℕ) (W output : List ℕ) {after part want : List ℕ} → length W ≡ a → after ≡ W ++ drop a output → part ≡ want
-    → pasted after a (a + size) part ≡ (W ++ want) ++ drop (a + size) output
-onward a size W output {after} {part} {want} lw e p =
-    behind W output after part a size lw e ∙ ap (λ (v : List ℕ). (W ++ v) ++ drop (a + size) output) p
-
--- nothing is left behind what is written
-pub emptied : (w l : List ℕ) (n : ℕ) → length l ≤ n → w ++ drop n l ≡ w
-emptied w l n h = rw (drop-of-length-le l h) (append-nil w)
 
 module _ (c : Conversion) (long : (r : List ℕ) → length (c .bytes r) ≡ c .to) (n : ℕ) (input output : List ℕ) (room : n * c .to ≤ length output) where
   pub filled-start : Filled c n input output 0 output

@@ -1,13 +1,11 @@
 -- DEMAND 3 of the scene strips: pixel to scene to pixel returns the same bytes, for every strip that is accepted; two pixel strips are one
 -- exactly where their scene strips are.
 -- Assumes nothing.
-use mathlib.Core.Path.{_≡_, refl, ap, sym, _∙_, subst}
+use mathlib.Core.Path.{_≡_}
 use mathlib.Core.Logic.{_↔_}
 use mathlib.Core.List.{List, _++_}
 use Prim.Native.Nat.{ℕ, _+_, _*_, _^_, _≤_, _<_}
-use native.Mathlib.Omega.{arith}
 use lib.Dec.{lit<}
-use lib.IntN.{ℤ}
 use lib.ListN.{length, take, drop}
 use Rattle.whole.specs.Parts.{up, dn}
 use Rattle.whole.proofs.Words.{parts-fit}
@@ -15,7 +13,6 @@ use Rattle.rules.specs.declared.Answer.the-variants.{Done}
 use Rattle.rules.specs.declared.Check.the-variants.{Passed}
 use Rattle.rules.specs.declared.Setting.{Setting}
 use Rattle.rules.specs.Setting.{codeCheck, Valid}
-use Rattle.rules.specs.Encoding.{sceneCheck}
 use Rattle.rules.specs.Record.{IsBytes, toBits, ofBits, codeBytes, numberBytes, settingOf}
 use Rattle.rules.specs.Strip.{recordCheck, answerOf, outputAfter}
 use Rattle.rules.proofs.Records.{length-record, of-to, bits-fit}
@@ -25,9 +22,10 @@ use Rattle.curve.proofs.Fit.{decoded-fits}
 use Rattle.curve.proofs.Limit.{decoded-passes}
 use Rattle.encode.specs.Encoded.{encoded}
 use Rattle.encode.proofs.Theorems.{encode-decoded}
-use Rattle.strip.specs.Conversions.{sceneBits, numberCheck, codeBits, pixelToScene, sceneToPixel}
+use Rattle.conversion.specs.Conversions.{sceneBits, numberCheck, codeBits, pixelToScene, sceneToPixel}
+use Rattle.conversion.proofs.Good.{Good}
+use Rattle.conversion.proofs.Channelwise.{TakenBack, record-passes, record-back}
 use Rattle.strip.proofs.Back as back
-use Rattle.strip.proofs.Channelwise.{TakenBack, record-passes, record-back}
 
 -- a code's number, in its bytes, is read back, passes, and is encoded to the code
 code-back : (s : Setting) → Valid s → (n : ℕ) → codeCheck s n ≡ Passed → TakenBack codeBytes numberBytes codeCheck numberCheck sceneBits codeBits s n
@@ -47,7 +45,7 @@ code-back s v n e =
 long : (r : List ℕ) → length (pixelToScene .bytes r) ≡ pixelToScene .to
 long r = length-record numberBytes (settingOf r) _
 
-taken-back : (r : List ℕ) → back.Good pixelToScene r → (recordCheck sceneToPixel (pixelToScene .bytes r) ≡ Passed) × (sceneToPixel .bytes (pixelToScene .bytes r) ≡ r)
+taken-back : (r : List ℕ) → Good pixelToScene r → (recordCheck sceneToPixel (pixelToScene .bytes r) ≡ Passed) × (sceneToPixel .bytes (pixelToScene .bytes r) ≡ r)
 taken-back r g = (
   record-passes codeBytes numberBytes codeCheck numberCheck sceneBits codeBits code-back r g,
   record-back codeBytes numberBytes codeCheck numberCheck sceneBits codeBits code-back r g,

@@ -1,4 +1,3 @@
-pub mod Conversions
 pub mod Same
 pub mod Join
 pub mod Writable

@@ -1,14 +1,13 @@
 -- `convert` meets its contract: the tests of the strips, the first pass, and the second.
 -- Assumes nothing.
-use mathlib.Core.Path.{_≡_, _∙_, sym, ap, subst}
-use native.Mathlib.Omega.{arith}
+use mathlib.Core.Path.{_≡_, subst}
 use native.Mathlib.Nat.{le-trans, mul-le-mul-right, le-div-iff-mul-le, div-lt-iff-lt-mul, div-mul-le-self}
 use denote.Ref.{now}
 use lib.ListN.{length}
 use Prim.Native.Nat.{ℕ, _*_, _/_, _%_, _≤_, _<_}
-use Rattle.rules.specs.Strip.{Conversion, Converts, scanOf}
+use Rattle.rules.specs.Strip.{scanOf}
 use Rattle.strip.proofs.Contract.{not-whole, too-short, to-write, finished}
-use Rattle.strip.specs.Conversions.{conversionOf}
+use Rattle.conversion.specs.Conversions.{conversionOf}
 use borrow.Author.Needs.{needs}
 use Rattle.strip.proofs.convert.Statement.{statement}
 use Rattle.strip.proofs.convert.Tie as tie

@@ -1,0 +1,5 @@
+pub mod Channels
+mod Parts
+pub mod EveryKind
+pub mod Good
+pub mod Channelwise

@@ -1,0 +1,34 @@
+-- `check_inner` meets its contract: the value names the conversion.
+-- Assumes nothing.
+use mathlib.Core.Path.{sym, ap, _∙_}
+use denote.Ref.{now}
+use borrow.Author.Needs.{needs}
+use Rattle.rules.specs.declared.Setting.{Setting}
+use Rattle.rules.specs.Setting.{codeCheck}
+use Rattle.conversion.specs.declared.Kind.{Kind}
+use Rattle.conversion.specs.Conversions.{channelChecks, numberCheck, conversionOf}
+use Rattle.conversion.proofs.check_inner.Statement.{statement}
+use Rattle.conversion.proofs.check_inner.Tie as tie
+
+check-codes-requires : tie.Need-check-codes-requires
+check-codes-requires c κs = (c .before .before .before .pre .0 .valid, c .before .before .before .pre .1 .1 ∙ ap (λ (x : Kind). conversionOf x .from) (c .enum-told .given .1))
+
+check-numbers-requires : tie.Need-check-numbers-requires
+check-numbers-requires c κs = c .before .before .before .pre .1 .1 ∙ ap (λ (x : Kind). conversionOf x .from) (c .enum-told2 .given .1)
+
+returns : tie.Need-returns
+returns c =
+    c .check-codes .ensures
+    ∙ ap (λ (s : Setting). channelChecks 2 (codeCheck s) (now (c .before .before .before .before .args .r))) (c .before .before .before .before .pre .1 .0)
+    ∙ sym (ap (λ (x : Kind). conversionOf x .inner (now (c .before .before .before .before .args .r))) (c .before .enum-told .given .1))
+
+returns-2 : tie.Need-returns-2
+returns-2 c =
+    c .check-numbers .ensures
+    ∙ ap (λ (s : Setting). channelChecks 8 (numberCheck s) (now (c .before .before .before .before .args .r))) (c .before .before .before .before .pre .1 .0)
+    ∙ sym (ap (λ (x : Kind). conversionOf x .inner (now (c .before .before .before .before .args .r))) (c .before .enum-told2 .given .1))
+
+pub check-inner-spec : {M : Type 1} → statement M
+check-inner-spec =
+    tie.close
+    (tie.spec (λ c. search needs) check-codes-requires (λ c. search needs) check-numbers-requires returns returns-2)
