@@ -6,9 +6,12 @@ use Prim.Native.Nat.{ℕ}
 use Rattle.rules.specs.declared.Check.{Check}
 use Rattle.rules.specs.declared.Check.the-variants.{Passed, Refused}
 use Rattle.rules.specs.declared.Refusal.{Refusal}
-use Rattle.rules.specs.Record.{channelAt}
+use Rattle.rules.specs.declared.Setting.{Setting}
+use Rattle.rules.specs.Setting.{codeCheck}
+use Rattle.rules.specs.WayBack.{IsPixel}
+use Rattle.rules.specs.Record.{codeBytes, channelAt}
 use Rattle.rules.specs.Refusal.{then}
-use Rattle.conversion.specs.Conversions.{channelChecks}
+use Rattle.conversion.specs.Conversions.{channelChecks, pixelIn}
 
 then-refused : (x next : Check) (why : Refusal) → x ≡ Refused why → x ≡ then x next
 then-refused x next why e = subst (λ (y : Check). y ≡ then y next) (sym e) refl
@@ -58,3 +61,7 @@ all-pass a check r e =
     let f = both (check (channelAt a r 0)) (then (check (channelAt a r 1)) (check (channelAt a r 2))) e in
     let g = both (check (channelAt a r 1)) (check (channelAt a r 2)) (f .1) in
     record { red = f .0; green = g .0; blue = g .1 }
+
+-- the codes of a record that pass are a pixel
+pub codes-pixel : (s : Setting) (r : List ℕ) → channelChecks codeBytes (codeCheck s) r ≡ Passed → IsPixel s (pixelIn r)
+codes-pixel s r e = let p = all-pass codeBytes (codeCheck s) r e in record { red = p .red; green = p .green; blue = p .blue }

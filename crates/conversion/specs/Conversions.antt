@@ -4,15 +4,21 @@ use mathlib.Core.List.{List}
 use Prim.Native.Nat.{ℕ}
 use Rattle.rules.specs.declared.Check.{Check}
 use Rattle.rules.specs.declared.Setting.{Setting}
+use Rattle.rules.specs.declared.Pixel.{Pixel}
+use Rattle.rules.specs.declared.Triple.{Triple}
+use Rattle.rules.specs.declared.Found.{Found}
+use Rattle.rules.specs.declared.Found as found
 use Rattle.rules.specs.Refusal.{then}
 use Rattle.rules.specs.Setting.{codeCheck}
 use Rattle.rules.specs.Encoding.{sceneCheck}
 use Rattle.rules.specs.Record.{toBits, ofBits, sizeOf, codeBytes, numberBytes, settingOf, channelAt, recordOf}
+use Rattle.rules.specs.WayBack.{pixel, triple, foundCheck}
 use Rattle.rules.specs.Strip.{Conversion}
 use Rattle.curve.specs.Decoded.{decoded}
 use Rattle.encode.specs.Encoded.{encoded}
+use Rattle.wayback.specs.Back.{pixelAces, pixelFor}
 use Rattle.conversion.specs.declared.Kind.{Kind}
-use Rattle.conversion.specs.declared.Kind.the-variants.{PixelToScene, SceneToPixel}
+use Rattle.conversion.specs.declared.Kind.the-variants.{PixelToScene, SceneToPixel, PixelToAces, AcesToPixel}
 
 -- "red, green and blue (each channel's checks before the next channel)", of channels of a bytes
 unfoldable pub channelChecks : (a : ℕ) → (ℕ → Check) → List ℕ → Check
@@ -49,7 +55,47 @@ codeBits s u = encoded s (ofBits numberBytes u)
 abbrev pub sceneToPixel : Conversion
 sceneToPixel = channelwise numberBytes codeBytes numberCheck codeBits
 
+-- the pixel of a pixel record, and the record of a pixel
+abbrev pub pixelIn : List ℕ → Pixel
+pixelIn r = pixel (channelAt codeBytes r 0) (channelAt codeBytes r 1) (channelAt codeBytes r 2)
+
+abbrev pub pixelRecord : Setting → Pixel → List ℕ
+pixelRecord s p = recordOf codeBytes s (record { red = p .red .0; green = p .green .0; blue = p .blue .0 })
+
+-- the three numbers of an ACES record, and the record of three numbers
+abbrev pub tripleIn : List ℕ → Triple
+tripleIn r = triple (ofBits numberBytes (channelAt numberBytes r 0)) (ofBits numberBytes (channelAt numberBytes r 1)) (ofBits numberBytes (channelAt numberBytes r 2))
+
+abbrev pub acesRecord : Setting → Triple → List ℕ
+acesRecord s a = recordOf numberBytes s (record { red = toBits numberBytes (a .red .0); green = toBits numberBytes (a .green .0); blue = toBits numberBytes (a .blue .0) })
+
+-- "pixel to ACES": a pixel "gives the ACES record that holds this setting and the pixel's three ACES numbers"
+abbrev pub pixelToAces : Conversion
+pixelToAces =
+    record {
+      from = sizeOf codeBytes;
+      to = sizeOf numberBytes;
+      inner = λ r. channelChecks codeBytes (codeCheck (settingOf r)) r;
+      bytes = λ r. acesRecord (settingOf r) (pixelAces (settingOf r) (pixelIn r));
+    }
+
+-- "ACES to pixel (the way back)": the pixel that gives the record (nothing is written where there is none: refusal 10)
+abbrev pub pixelFound : Found → Pixel
+pixelFound (found.Found.Pixel p) = p
+pixelFound found.Found.Nothing = pixel 0 0 0
+
+abbrev pub acesToPixel : Conversion
+acesToPixel =
+    record {
+      from = sizeOf numberBytes;
+      to = sizeOf codeBytes;
+      inner = λ r. foundCheck (pixelFor (settingOf r) (tripleIn r));
+      bytes = λ r. pixelRecord (settingOf r) (pixelFound (pixelFor (settingOf r) (tripleIn r)));
+    }
+
 -- the conversion that a value names
 abbrev pub conversionOf : Kind → Conversion
 conversionOf PixelToScene = pixelToScene
 conversionOf SceneToPixel = sceneToPixel
+conversionOf PixelToAces = pixelToAces
+conversionOf AcesToPixel = acesToPixel

@@ -7,6 +7,7 @@ ghost use Rattle.rules.specs.Record.{settingOf};
 ghost use Rattle.curve.specs.Ready.{Ready};
 ghost use Rattle.conversion.specs.Conversions.{conversionOf};
 
+mod aces;
 mod pixel;
 mod scene;
 
@@ -18,6 +19,8 @@ use rules::Setting;
 pub enum Kind {
     PixelToScene,
     SceneToPixel,
+    PixelToAces,
+    AcesToPixel,
 }
 
 // The bytes of a record, and of what is written for one.
@@ -27,6 +30,8 @@ pub fn size_from(k: Kind) -> usize
     match k {
         Kind::PixelToScene => 10,
         Kind::SceneToPixel => 28,
+        Kind::PixelToAces => 10,
+        Kind::AcesToPixel => 28,
     }
 }
 
@@ -36,6 +41,8 @@ pub fn size_to(k: Kind) -> usize
     match k {
         Kind::PixelToScene => 28,
         Kind::SceneToPixel => 10,
+        Kind::PixelToAces => 28,
+        Kind::AcesToPixel => 10,
     }
 }
 
@@ -48,6 +55,8 @@ pub fn check_inner(k: Kind, s: Setting, d: Decoder, t: &[u64; 128], r: &[u8]) ->
     match k {
         Kind::PixelToScene => pixel::check_codes(s, r),
         Kind::SceneToPixel => scene::check_numbers(s, r),
+        Kind::PixelToAces => pixel::check_codes(s, r),
+        Kind::AcesToPixel => aces::check_triple(s, d, t, r),
     }
 }
 
@@ -61,5 +70,7 @@ pub fn write_record(k: Kind, s: Setting, d: Decoder, t: &[u64; 128], r: &[u8], o
     match k {
         Kind::PixelToScene => pixel::write_scene(s, d, t, r, out),
         Kind::SceneToPixel => scene::write_pixel(s, d, t, r, out),
+        Kind::PixelToAces => aces::write_triple(s, d, t, r, out),
+        Kind::AcesToPixel => aces::write_back(s, d, t, r, out),
     }
 }

@@ -1,0 +1,95 @@
+// ACES records: what is written for a pixel record, and for an ACES record on the way back.
+ghost use mathlib.Core.Path.{_≡_};
+ghost use lib.ListN.{length};
+ghost use Rattle.rules.specs.declared.Check.the-variants.{Passed};
+ghost use Rattle.rules.specs.Setting.{codeCheck};
+ghost use Rattle.rules.specs.WayBack.{foundCheck};
+ghost use Rattle.curve.specs.Ready.{Ready};
+ghost use Rattle.wayback.specs.Back.{pixelAces, pixelFor};
+ghost use Rattle.conversion.specs.Conversions.{channelChecks, pixelIn, pixelRecord, tripleIn, acesRecord, pixelFound};
+use curve::decoder::Decoder;
+use rules::Aces;
+use rules::Check;
+use rules::Code;
+use rules::Pixel;
+use rules::Setting;
+use rules::Triple;
+
+// The pixel of a pixel record.
+fn pixel_in(r: &[u8]) -> Pixel
+    requires { ⌜ length (now r) ≡ 10 ⌝ }
+    ensures { λ p. ⌜ p ≡ pixelIn (now (r .entry)) ⌝ }
+{
+    Pixel {
+        red: Code(records::word_at(r, 4)),
+        green: Code(records::word_at(r, 6)),
+        blue: Code(records::word_at(r, 8)),
+    }
+}
+
+// The three numbers of an ACES record.
+fn triple_in(r: &[u8]) -> Triple
+    requires { ⌜ length (now r) ≡ 28 ⌝ }
+    ensures { λ a. ⌜ a ≡ tripleIn (now (r .entry)) ⌝ }
+{
+    Triple {
+        red: Aces(records::long_at(r, 4)),
+        green: Aces(records::long_at(r, 12)),
+        blue: Aces(records::long_at(r, 20)),
+    }
+}
+
+// The record of a setting and a pixel, each part in its own stretch.
+fn put_pixel(out: &mut [u8], s: Setting, p: Pixel)
+    requires { ⌜ length (now out) ≡ 10 ⌝ }
+    ensures { λ _. ⌜ now (out .exit) ≡ pixelRecord s p ⌝ }
+{
+    records::put_setting(&mut out[0..4], s);
+    records::put_word(&mut out[4..6], p.red.0);
+    records::put_word(&mut out[6..8], p.green.0);
+    records::put_word(&mut out[8..10], p.blue.0);
+}
+
+// The record of a setting and three ACES numbers, each part in its own stretch.
+fn put_triple(out: &mut [u8], s: Setting, a: Triple)
+    requires { ⌜ length (now out) ≡ 28 ⌝ }
+    ensures { λ _. ⌜ now (out .exit) ≡ acesRecord s a ⌝ }
+{
+    records::put_setting(&mut out[0..4], s);
+    records::put_long(&mut out[4..12], a.red.0);
+    records::put_long(&mut out[12..20], a.green.0);
+    records::put_long(&mut out[20..28], a.blue.0);
+}
+
+// What is written for a pixel record: its ACES record.
+pub fn write_triple(s: Setting, d: Decoder, t: &[u64; 128], r: &[u8], out: &mut [u8])
+    requires { ⌜ Ready s d (now t) ⌝ }
+    requires { ⌜ length (now r) ≡ 10 ⌝ }
+    requires { ⌜ channelChecks 2 (codeCheck s) (now r) ≡ Passed ⌝ }
+    requires { ⌜ length (now out) ≡ 28 ⌝ }
+    ensures { λ _. ⌜ now (out .exit) ≡ acesRecord s (pixelAces s (pixelIn (now (r .entry)))) ⌝ }
+{
+    let a = wayback::to_aces(s, d, t, pixel_in(r));
+    put_triple(out, s, a);
+}
+
+// The check of an ACES record: refusal 10.
+pub fn check_triple(s: Setting, d: Decoder, t: &[u64; 128], r: &[u8]) -> Check
+    requires { ⌜ Ready s d (now t) ⌝ }
+    requires { ⌜ length (now r) ≡ 28 ⌝ }
+    ensures { λ x. ⌜ x ≡ foundCheck (pixelFor s (tripleIn (now (r .entry)))) ⌝ }
+{
+    wayback::check_aces(s, d, t, triple_in(r))
+}
+
+// What is written for an ACES record that passes: the record of the pixel that gives it.
+pub fn write_back(s: Setting, d: Decoder, t: &[u64; 128], r: &[u8], out: &mut [u8])
+    requires { ⌜ Ready s d (now t) ⌝ }
+    requires { ⌜ length (now r) ≡ 28 ⌝ }
+    requires { ⌜ foundCheck (pixelFor s (tripleIn (now r))) ≡ Passed ⌝ }
+    requires { ⌜ length (now out) ≡ 10 ⌝ }
+    ensures { λ _. ⌜ now (out .exit) ≡ pixelRecord s (pixelFound (pixelFor s (tripleIn (now (r .entry))))) ⌝ }
+{
+    let p = wayback::pixel_of(s, d, t, triple_in(r));
+    put_pixel(out, s, p);
+}
