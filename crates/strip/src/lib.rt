@@ -5,7 +5,7 @@ ghost use lib.ListN.{length};
 ghost use Rattle.rules.specs.declared.Answer.the-variants.{Done};
 ghost use Rattle.rules.specs.Setting.{Valid};
 ghost use Rattle.rules.specs.Strip.{Converts, scanOf, outputAfter};
-ghost use Rattle.conversion.specs.Conversions.{pixelToScene, sceneToPixel, conversionOf};
+ghost use Rattle.conversion.specs.Conversions.{pixelToScene, sceneToPixel, pixelToAces, acesToPixel, conversionOf};
 ghost use Rattle.strip.specs.Same.{Same};
 ghost use Rattle.strip.specs.Writable.{writable};
 use conversion::Kind;
@@ -135,4 +135,18 @@ pub fn scene_to_pixel(input: &[u8], output: &mut [u8]) -> Answer
     ensures { λ a. ⌜ Converts sceneToPixel (now (input .entry)) (now (output .entry)) a (now (output .exit)) ⌝ }
 {
     convert(Kind::SceneToPixel, input, output)
+}
+
+// A strip of pixel records to one of ACES records.
+pub fn pixel_to_aces(input: &[u8], output: &mut [u8]) -> Answer
+    ensures { λ a. ⌜ Converts pixelToAces (now (input .entry)) (now (output .entry)) a (now (output .exit)) ⌝ }
+{
+    convert(Kind::PixelToAces, input, output)
+}
+
+// The way back: a strip of ACES records to the one of pixel records that gives it.
+pub fn aces_to_pixel(input: &[u8], output: &mut [u8]) -> Answer
+    ensures { λ a. ⌜ Converts acesToPixel (now (input .entry)) (now (output .entry)) a (now (output .exit)) ⌝ }
+{
+    convert(Kind::AcesToPixel, input, output)
 }
