@@ -7,7 +7,8 @@
  * Every function reads in[0 .. in_len) and returns
  *   0       converted: *at is the count of records. Each record is written in its own stretch of the output, from out[0] on, and the bytes
  *           beyond the last are unchanged;
- *   1 to 7  refused: *at is the index of the first refused record (0 for 1 and 2), and no byte of out has changed.
+ *   else    refused: the number is one of the causes below, *at is the index of the first refused record (0 for 1 and 2), and no byte
+ *           of out has changed.
  * It never changes a byte of in, and writes *at in every case. This is proved, for any bytes and any lengths (crates/ropeinstant).
  *
  * What the caller owes, and no proof sees: each pointer is not null (even for a length of 0) and points to as many bytes as its
