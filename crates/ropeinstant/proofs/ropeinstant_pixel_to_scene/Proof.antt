@@ -1,0 +1,13 @@
+-- `ropeinstant_pixel_to_scene` meets its contract: the conversion's, with the answer's number and place.
+-- Assumes nothing.
+use borrow.Author.Needs.{needs}
+use Rattle.ropeinstant.proofs.Answered.{answered}
+use Rattle.ropeinstant.proofs.ropeinstant_pixel_to_scene.Statement.{statement}
+use Rattle.ropeinstant.proofs.ropeinstant_pixel_to_scene.Tie as tie
+
+returns : tie.Need-returns
+returns c = answered (c .before .before .before .before .pixel-to-scene .ensures) (c .give .ensures .0) (c .give .ensures .1)
+
+pub ropeinstant-pixel-to-scene-spec : {M : Type 1} → statement M
+ropeinstant-pixel-to-scene-spec =
+    tie.close (tie.spec (λ c κs. search needs) (λ c κs. search needs) (λ c. search needs) returns)

@@ -1,0 +1,47 @@
+/* Ropeinstant for C: the conversions of strips. Link with libropeinstant.a (`rt staticlib ropeinstant`), for x86-64 Linux.
+ *
+ * A strip is bytes: records of one size, one after the other, with no header; numbers are little endian. Each record begins with its
+ * setting: curve (1 byte), width in bits (1 byte), EI (2 bytes). A pixel record has 10 bytes, with three codes of 2 bytes; a scene record
+ * has 28, with three signed numbers of 8 bytes in units of 2^-24.
+ *
+ * Every function reads in[0 .. in_len) and returns
+ *   0       converted: *at is the count of records. Each record is written in its own stretch of the output, from out[0] on, and the bytes
+ *           beyond the last are unchanged;
+ *   else    refused: the number is one of the causes below, *at is the index of the first refused record (0 for 1 and 2), and no byte
+ *           of out has changed.
+ * It never changes a byte of in, and writes *at in every case. This is proved, for any bytes and any lengths (crates/ropeinstant).
+ *
+ * What the caller owes, and no proof sees: each pointer is not null (even for a length of 0) and points to as many bytes as its
+ * length says; in, out and *at do not overlap; nothing else writes them during the call. */
+#ifndef ROPEINSTANT_H
+#define ROPEINSTANT_H
+
+#include <stddef.h>
+#include <stdint.h>
+
+#ifdef __cplusplus
+extern "C" {
+#endif
+
+/* Why a strip is refused. */
+enum ropeinstant_refusal {
+    ROPEINSTANT_PARTIAL_RECORD = 1,     /* the input is not a whole number of records */
+    ROPEINSTANT_SHORT_OUTPUT = 2,       /* the output is shorter than the records need */
+    ROPEINSTANT_UNKNOWN_CURVE = 3,      /* the curve is neither 3 nor 4 */
+    ROPEINSTANT_UNKNOWN_WIDTH = 4,      /* the width is not one of the curve's */
+    ROPEINSTANT_UNKNOWN_EI = 5,         /* the EI is not one of the curve's */
+    ROPEINSTANT_CODE_ABOVE_TOP = 6,     /* a code is above the top code of its width */
+    ROPEINSTANT_SCENE_OUT_OF_RANGE = 7, /* a scene number to encode is outside -2^40 to 2^40 */
+};
+
+/* Decoding: pixel records (10 bytes) to scene records (28 bytes). Refuses by 1 to 6. */
+uint32_t ropeinstant_pixel_to_scene(const uint8_t *in, size_t in_len, uint8_t *out, size_t out_len, uint64_t *at);
+
+/* Encoding: scene records (28 bytes) to pixel records (10 bytes), each number to the nearest code. Refuses by 1 to 5 and 7. */
+uint32_t ropeinstant_scene_to_pixel(const uint8_t *in, size_t in_len, uint8_t *out, size_t out_len, uint64_t *at);
+
+#ifdef __cplusplus
+}
+#endif
+
+#endif

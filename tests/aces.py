@@ -1,0 +1,105 @@
+#!/usr/bin/env python3
+"""aces.py DRIVER [SEED]: have DRIVER (tests/driver.c, linked with the library) convert a million pixels to ACES and back, a million ACES
+triples one unit off, and strips that are short, long, damaged or random, by all four conversions; hold every answer and every byte to
+the rules of 01 (rules.py)."""
+import random, subprocess, sys, time
+
+from rules import ACES_TO_PIXEL, NUMBERS, PIXEL, PIXEL_TO_ACES, PIXEL_TO_SCENE, SCENE_TO_PIXEL, SETTINGS, aces, apart, numbers, pixel_of
+from strips import ENDS, hold, jobs, returned
+
+STRIPS, RECORDS = 20, 50000
+SAMPLE = 1000  # of the records of each strip: the way back by definition
+LISTED = (3, 12, 800)
+
+
+def drive(driver, command, conversion, data):
+    return subprocess.run([driver, command, conversion, "/dev/stdin"], input=data, stdout=subprocess.PIPE, check=True).stdout
+
+
+def same(got, want, record, asked):
+    """the answer's line and every byte of the output; where they differ, the first record that does"""
+    if got != want:
+        line, made = got.split(b"\n", 1)
+        wanted = want.split(b"\n", 1)[1]
+        k = next((k for k in range(len(asked)) if made[k * record:(k + 1) * record] != wanted[k * record:(k + 1) * record]), None)
+        raise AssertionError((line, k, k is not None and (asked[k].hex(), made[k * record:(k + 1) * record].hex(), wanted[k * record:(k + 1) * record].hex())))
+
+
+def code(pick, width):
+    """a code, one in sixteen near an end"""
+    n = pick.getrandbits(width)
+    return n if pick.getrandbits(4) else pick.choice((0, 1, 2 ** width - 2, 2 ** width - 1))
+
+
+def mixed(pick, table, count):
+    """pixel records in runs of one setting, their ACES records, and for each an ACES record with one channel one unit off"""
+    pixels, made, off = [], [], []
+    while len(pixels) < count:
+        s = pick.choice(SETTINGS)
+        ys, width = table[s], s[1]
+        for _ in range(min(pick.choice((1, 2, 30, 100)), count - len(pixels))):
+            pixel = code(pick, width), code(pick, width), code(pick, width)
+            triple = aces(s, *(ys[n] for n in pixel))
+            pixels.append(PIXEL.pack(*s, *pixel))
+            made.append(NUMBERS.pack(*s, *triple))
+            triple[pick.randrange(3)] += pick.choice((-1, 1))
+            off.append(NUMBERS.pack(*s, *triple))
+    return pixels, made, off
+
+
+def million(driver, pick, table):
+    """pixels to ACES, and back; triples one unit off, each alone"""
+    for _ in range(STRIPS):
+        pixels, made, off = mixed(pick, table, RECORDS)
+        done = b"done %d\n" % RECORDS
+        same(drive(driver, "strip", "pixel-to-aces", b"".join(pixels)), done + b"".join(made), NUMBERS.size, pixels)
+        same(drive(driver, "strip", "aces-to-pixel", b"".join(made)), done + b"".join(pixels), PIXEL.size, made)
+        for r, found in zip(made[:SAMPLE] + off[:SAMPLE], pixels[:SAMPLE] + [None] * SAMPLE):
+            *s, x, y, z = NUMBERS.unpack(r)
+            codes = pixel_of(table, tuple(s), [x, y, z])
+            assert (codes and PIXEL.pack(*s, *codes)) == found, (s, x, y, z, codes)
+        lines = drive(driver, "records", "aces-to-pixel", b"".join(off)).split(b"\n")
+        assert len(lines) == RECORDS + 1 and not lines.pop()
+        for line, r in zip(lines, off):
+            assert line == b"refused 10 0", (line, NUMBERS.unpack(r))
+
+
+def listed():
+    """the pixel and the triple that 01 lists, and triples at the ends of the range, alone and after a record that passes"""
+    pixel, triple = PIXEL.pack(*LISTED, 100, 0, 0), NUMBERS.pack(*LISTED, -238167, -283566, -289928)
+    none = NUMBERS.pack(*LISTED, -290085, -290085, -290084)
+    yield PIXEL_TO_ACES, pixel, bytes(28)
+    yield ACES_TO_PIXEL, triple, bytes(10)
+    yield ACES_TO_PIXEL, none, bytes(10)
+    yield ACES_TO_PIXEL, triple + none, bytes(30)
+    yield PIXEL_TO_ACES, bytes(11), bytes(100)
+    yield ACES_TO_PIXEL, bytes(29), bytes(100)
+    for c in (PIXEL_TO_ACES, ACES_TO_PIXEL):
+        yield c, b"", b""
+        yield c, b"", b"kept"
+    for s in SETTINGS:
+        for x in ENDS:
+            yield ACES_TO_PIXEL, triple + NUMBERS.pack(*s, x, x, x), bytes(20)
+            yield ACES_TO_PIXEL, NUMBERS.pack(*s, x, 0, -x - 1), bytes(10)
+
+
+def main():
+    begun = time.time()
+    driver, pick = sys.argv[1], random.Random(int(sys.argv[2]) if len(sys.argv) > 2 else 1)
+    table = {s: numbers(s) for s in SETTINGS}
+    least = min(apart(table, s) for s in SETTINGS)
+    assert least >= 12, least  # so a triple one unit off is no other pixel's
+    assert aces(LISTED, *(table[LISTED][n] for n in (100, 0, 0))) == [-238167, -283566, -289928]
+    assert pixel_of(table, LISTED, [-290085, -290085, -290084]) is None
+    million(driver, pick, table)
+    print(f"aces: {STRIPS * RECORDS} pixels of {len(SETTINGS)} settings in mixed strips: their ACES strips are exact in every byte, and give the pixels back")
+    print(f"aces: {STRIPS * RECORDS} ACES triples one unit off in one channel are each refused by 10 (two pixels are {float(least):.1f} units apart or more)")
+    todo = [*listed(), *jobs(pick, table, (PIXEL_TO_ACES, ACES_TO_PIXEL), 4000), *jobs(pick, table, (PIXEL_TO_SCENE, SCENE_TO_PIXEL), 1000)]
+    seen, done = hold([driver, "jobs"], table, todo)
+    assert all(f"refused {n}" in seen for n in (*range(1, 8), 10)), seen
+    strips, _ = returned([driver, "jobs"], done, PIXEL_TO_ACES, ACES_TO_PIXEL)
+    print(f"aces: {len(todo)} strips, short, long, damaged or random, are converted or refused as the rules say, every byte of the outputs too: {seen}; {strips} ACES strips give the pixels back ({time.time() - begun:.0f} s)")
+
+
+if __name__ == "__main__":
+    main()

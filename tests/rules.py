@@ -1,0 +1,109 @@
+"""The rules of 01 for strips, read anew from the printed curves and matrices with whole numbers and fractions. Nothing of the project's
+code or tables is used. The tests hold the programs to what stands here."""
+from bisect import bisect_left, bisect_right
+from fractions import Fraction
+from math import floor
+from struct import Struct
+
+from decoded import SETTINGS, exact, refusal
+
+LIMIT = 2 ** 40  # of a scene number to encode
+PIXEL_TO_SCENE, SCENE_TO_PIXEL, PIXEL_TO_ACES, ACES_TO_PIXEL = range(4)
+PIXEL, NUMBERS = Struct("<BBH3H"), Struct("<BBH3q")  # a record: curve, width, EI, and three codes or numbers
+READ = (PIXEL, NUMBERS, PIXEL, NUMBERS)  # by each conversion
+WRITTEN = (NUMBERS, PIXEL, NUMBERS, PIXEL)
+MATRICES = {  # curve: scale, rows
+    4: (10 ** 18, (
+        (750957362824734131, 144422786709757084, 104619850465508965),
+        (821837079380207, 1007397584885003194, -8219421964383583),
+        (-499952143533471, -854177231436971, 1001354129374970370),
+    )),
+    3: (10 ** 6, (
+        (680205, 236137, 83658),
+        (85415, 1017471, -102886),
+        (2057, -62563, 1060506),
+    )),
+}
+
+
+def numbers(s):
+    """the decoded numbers of a setting's codes; decoded.py shows that each is the nearest whole number"""
+    return [floor(value + (Fraction(1, 2) if toe else 1 / (value * 0 + 2))) for toe, value in exact(*s)]
+
+
+def nearest(ys, x):
+    """the code whose number is nearest to x; of two, the lower"""
+    i = bisect_left(ys, x)
+    return min((n for n in (i - 1, i) if 0 <= n < len(ys)), key=lambda n: (abs(x - ys[n]), n))
+
+
+def aces(s, r, g, b):
+    """the ACES numbers of three decoded numbers: the row product over the scale, to the nearest whole number, a half going up"""
+    scale, rows = MATRICES[s[0]]
+    return [(2 * (i * r + j * g + k * b) + scale) // (2 * scale) for i, j, k in rows]
+
+
+def inverse(scale, rows):
+    """the inverse of a matrix over its scale, as rows of whole numbers over a whole number (Cramer's rule)"""
+    def cofactor(i, j):
+        (a, b), (c, d) = ([x for k, x in enumerate(row) if k != j] for h, row in enumerate(rows) if h != i)
+        return (a * d - b * c) * (-1) ** (i + j)
+    return sum(rows[0][j] * cofactor(0, j) for j in range(3)), [[scale * cofactor(j, i) for j in range(3)] for i in range(3)]
+
+
+INVERSES = {curve: inverse(*matrix) for curve, matrix in MATRICES.items()}
+
+
+def pixel_of(table, s, triple):
+    """the codes of the pixel of a setting with exactly this ACES triple, or None. A channel of the pixel's decoded numbers is the inverse's
+    row product with numbers at most a half from the triple, so it lies in an interval; each pixel in the intervals is tried."""
+    over, rows = INVERSES[s[0]]
+    found = [()]
+    for row in rows:
+        middle, reach = 2 * sum(m * x for m, x in zip(row, triple)), sum(abs(m) for m in row)
+        low, high = -((reach - middle) // (2 * over)), (middle + reach) // (2 * over)
+        codes = range(bisect_left(table[s], low), bisect_right(table[s], high))
+        found = [some + (n,) for some in found for n in codes]
+    found = [codes for codes in found if aces(s, *(table[s][n] for n in codes)) == list(triple)]
+    assert len(found) < 2, (s, triple, found)
+    return found[0] if found else None
+
+
+def apart(table, s):
+    """a number of units such that some channel of two different pixels' ACES triples differs by as much: a channel of their decoded numbers
+    differs by the least step, and each ACES number is at most a half from its row product"""
+    over, rows = INVERSES[s[0]]
+    step = min(b - a for a, b in zip(table[s], table[s][1:]))
+    return Fraction(step * over, max(sum(abs(m) for m in row) for row in rows)) - 1
+
+
+def one(table, conversion, s, channels):
+    """what the channels of a record become, or the number of its refusal; the setting is valid"""
+    if conversion in (PIXEL_TO_SCENE, PIXEL_TO_ACES):
+        if any(n >= 2 ** s[1] for n in channels):
+            return 6
+        scenes = [table[s][n] for n in channels]
+        return scenes if conversion == PIXEL_TO_SCENE else aces(s, *scenes)
+    if conversion == SCENE_TO_PIXEL:
+        if any(not -LIMIT <= x <= LIMIT for x in channels):
+            return 7
+        return [nearest(table[s], x) for x in channels]
+    return pixel_of(table, s, channels) or 10
+
+
+def convert(table, conversion, data, output):
+    """the answer's line, and the output strip after it"""
+    size, to = READ[conversion].size, WRITTEN[conversion].size
+    if len(data) % size:
+        return "refused 1 0", output
+    count = len(data) // size
+    if len(output) < count * to:
+        return "refused 2 0", output
+    written = []
+    for k, (curve, width, ei, *channels) in enumerate(READ[conversion].iter_unpack(data)):
+        s = curve, width, ei
+        made = refusal(*s, 0) or one(table, conversion, s, channels)
+        if isinstance(made, int):
+            return f"refused {made} {k}", output
+        written.append(WRITTEN[conversion].pack(*s, *made))
+    return f"done {count}", b"".join(written) + output[count * to:]
