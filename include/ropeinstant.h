@@ -2,7 +2,7 @@
  *
  * A strip is bytes: records of one size, one after the other, with no header; numbers are little endian. Each record begins with its
  * setting: curve (1 byte), width in bits (1 byte), EI (2 bytes). A pixel record has 10 bytes, with three codes of 2 bytes; a scene record
- * has 28, with three signed numbers of 8 bytes in units of 2^-24.
+ * and an ACES record have 28, with three signed numbers of 8 bytes in units of 2^-24.
  *
  * Every function reads in[0 .. in_len) and returns
  *   0       converted: *at is the count of records. Each record is written in its own stretch of the output, from out[0] on, and the bytes
@@ -32,6 +32,7 @@ enum ropeinstant_refusal {
     ROPEINSTANT_UNKNOWN_EI = 5,         /* the EI is not one of the curve's */
     ROPEINSTANT_CODE_ABOVE_TOP = 6,     /* a code is above the top code of its width */
     ROPEINSTANT_SCENE_OUT_OF_RANGE = 7, /* a scene number to encode is outside -2^40 to 2^40 */
+    ROPEINSTANT_NO_PIXEL = 10,          /* the way back: no pixel of the setting has this ACES triple */
 };
 
 /* Decoding: pixel records (10 bytes) to scene records (28 bytes). Refuses by 1 to 6. */
@@ -39,6 +40,12 @@ uint32_t ropeinstant_pixel_to_scene(const uint8_t *in, size_t in_len, uint8_t *o
 
 /* Encoding: scene records (28 bytes) to pixel records (10 bytes), each number to the nearest code. Refuses by 1 to 5 and 7. */
 uint32_t ropeinstant_scene_to_pixel(const uint8_t *in, size_t in_len, uint8_t *out, size_t out_len, uint64_t *at);
+
+/* Pixel records (10 bytes) to ACES records (28 bytes). Refuses by 1 to 6. */
+uint32_t ropeinstant_pixel_to_aces(const uint8_t *in, size_t in_len, uint8_t *out, size_t out_len, uint64_t *at);
+
+/* The way back: ACES records (28 bytes) to the pixel records (10 bytes) with exactly these ACES numbers. Refuses by 1 to 5 and 10. */
+uint32_t ropeinstant_aces_to_pixel(const uint8_t *in, size_t in_len, uint8_t *out, size_t out_len, uint64_t *at);
 
 #ifdef __cplusplus
 }

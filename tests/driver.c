@@ -26,6 +26,8 @@ struct conversion {
 static const struct conversion CONVERSIONS[] = {
     {"pixel-to-scene", ropeinstant_pixel_to_scene, 10, 28},
     {"scene-to-pixel", ropeinstant_scene_to_pixel, 28, 10},
+    {"pixel-to-aces", ropeinstant_pixel_to_aces, 10, 28},
+    {"aces-to-pixel", ropeinstant_aces_to_pixel, 28, 10},
 };
 enum { COUNT = sizeof CONVERSIONS / sizeof CONVERSIONS[0] };
 

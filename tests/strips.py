@@ -3,7 +3,7 @@
 of each output strip to the rules of 01 (rules.py)."""
 import random, subprocess, sys, time
 
-from rules import ACES_TO_PIXEL, LIMIT, PIXEL, PIXEL_TO_SCENE, READ, SCENE_TO_PIXEL, SETTINGS, WRITTEN, aces, convert, numbers
+from rules import ACES_TO_PIXEL, LIMIT, PIXEL, PIXEL_TO_ACES, PIXEL_TO_SCENE, READ, SCENE_TO_PIXEL, SETTINGS, WRITTEN, aces, convert, numbers
 
 CHOSEN = [s for s in SETTINGS if s[1] < 16] + [(3, 16, 160), (3, 16, 800), (3, 16, 1600), (4, 16, 0)]
 INVALID = [(2, 12, 800), (5, 12, 0), (0, 0, 0), (3, 14, 800), (4, 10, 0), (3, 12, 2000), (3, 16, 0), (4, 12, 800), (4, 16, 65535)]
@@ -130,12 +130,14 @@ def main():
     begun = time.time()
     pick = random.Random(int(sys.argv[2]) if len(sys.argv) > 2 else 1)
     table = {s: numbers(s) for s in CHOSEN}
-    todo = [(0, bytes(11), bytes(100)), (0, b"", b""), (1, b"", b""), *jobs(pick, table, (PIXEL_TO_SCENE, SCENE_TO_PIXEL), 2000)]
+    todo = [(0, bytes(11), bytes(100)), (0, b"", b""), (1, b"", b""), *jobs(pick, table, range(4), 4000)]
     seen, done = hold([sys.argv[1]], table, todo)
-    assert all(f"refused {n}" in seen for n in range(1, 8)), seen
+    assert all(f"refused {n}" in seen for n in (*range(1, 8), 10)), seen
     print(f"strips: {len(todo)} strips are converted or refused as the rules say, every byte of the outputs too: {seen}")
-    strips, records = returned([sys.argv[1]], done, PIXEL_TO_SCENE, SCENE_TO_PIXEL)
-    print(f"strips: {strips} pixel strips are returned by scene to pixel, {records} records ({time.time() - begun:.0f} s)")
+    for name, there, back in ("scene", PIXEL_TO_SCENE, SCENE_TO_PIXEL), ("ACES", PIXEL_TO_ACES, ACES_TO_PIXEL):
+        strips, records = returned([sys.argv[1]], done, there, back)
+        print(f"strips: {strips} pixel strips are returned by {name} to pixel, {records} records")
+    print(f"strips: {time.time() - begun:.0f} s")
 
 
 if __name__ == "__main__":

@@ -1,7 +1,7 @@
 // The conversions of strips for C. Each function lends its strips to a conversion of `strip` and gives the answer as a number and a place;
 // include/ropeinstant.h declares them.
 ghost use mathlib.Core.Path.{_≡_};
-ghost use Rattle.conversion.specs.Conversions.{pixelToScene, sceneToPixel};
+ghost use Rattle.conversion.specs.Conversions.{pixelToScene, sceneToPixel, pixelToAces, acesToPixel};
 ghost use Rattle.ropeinstant.specs.Given.{number, place, Gives};
 use rules::Answer;
 
@@ -36,4 +36,20 @@ pub extern "C" fn ropeinstant_scene_to_pixel(input: &[u8], output: &mut [u8], at
     ensures { λ n. ⌜ Gives sceneToPixel (now (input .entry)) (now (output .entry)) n (now (at .exit)) (now (output .exit)) ⌝ }
 {
     give(strip::scene_to_pixel(input, output), at)
+}
+
+// A strip of pixel records to one of ACES records.
+#[no_mangle]
+pub extern "C" fn ropeinstant_pixel_to_aces(input: &[u8], output: &mut [u8], at: &mut u64) -> u32
+    ensures { λ n. ⌜ Gives pixelToAces (now (input .entry)) (now (output .entry)) n (now (at .exit)) (now (output .exit)) ⌝ }
+{
+    give(strip::pixel_to_aces(input, output), at)
+}
+
+// The way back: a strip of ACES records to one of pixel records.
+#[no_mangle]
+pub extern "C" fn ropeinstant_aces_to_pixel(input: &[u8], output: &mut [u8], at: &mut u64) -> u32
+    ensures { λ n. ⌜ Gives acesToPixel (now (input .entry)) (now (output .entry)) n (now (at .exit)) (now (output .exit)) ⌝ }
+{
+    give(strip::aces_to_pixel(input, output), at)
 }

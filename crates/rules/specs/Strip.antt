@@ -35,6 +35,10 @@ unfoldable pub records : (size n : ℕ) → List ℕ → List (List ℕ)
 records size zero strip = []
 records size (suc n) strip = take size strip ∷ records size n (drop size strip)
 
+-- the k-th record of a strip, from 0
+abbrev pub recordAt : (size k : ℕ) → List ℕ → List ℕ
+recordAt size k strip = take size (drop (k * size) strip)
+
 -- what is written for records, "one record for each of its records, in order"
 unfoldable pub written : (List ℕ → List ℕ) → List (List ℕ) → List ℕ
 written bytes [] = []

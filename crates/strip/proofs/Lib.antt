@@ -1,5 +1,6 @@
 pub mod Cut
 pub mod FirstPass
+pub mod First
 pub mod SecondPass
 pub mod Contract
 mod Settings

@@ -1,0 +1,13 @@
+-- `ropeinstant_pixel_to_aces` meets its contract: the conversion's, with the answer's number and place.
+-- Assumes nothing.
+use borrow.Author.Needs.{needs}
+use Rattle.ropeinstant.proofs.Answered.{answered}
+use Rattle.ropeinstant.proofs.ropeinstant_pixel_to_aces.Statement.{statement}
+use Rattle.ropeinstant.proofs.ropeinstant_pixel_to_aces.Tie as tie
+
+returns : tie.Need-returns
+returns c = answered (c .before .before .before .before .pixel-to-aces .ensures) (c .give .ensures .0) (c .give .ensures .1)
+
+pub ropeinstant-pixel-to-aces-spec : {M : Type 1} → statement M
+ropeinstant-pixel-to-aces-spec =
+    tie.close (tie.spec (λ c κs. search needs) (λ c κs. search needs) (λ c. search needs) returns)
