@@ -6,7 +6,7 @@ use mathlib.Core.List.{List}
 use Prim.Native.Nat.{ℕ, _+_, _-_, _*_, _≤_}
 use native.Mathlib.Omega.{arith}
 use denote.Ref.{now}
-use lib.ListN.{length}
+use lib.ListN.{length, length-take, length-drop}
 use borrow.Author.Needs.{needs}
 use borrow.Author.Tests.{not-false}
 use Rattle.rules.specs.declared.Check.the-variants.{Passed}
@@ -55,9 +55,6 @@ room-to c =
 long-from : (c : tie.In-loop Inv-loop μ-loop) → length (cut (c .before .before .before .before .before .before .size-from .result) (c .before .loop .i) (strip c)) ≡ conversion c .from
 long-from c = length-cut (c .before .loop .i) (strip c) (c .before .before .before .before .before .before .size-from .ensures .0) (room-from c)
 
-long-to : (c : tie.In-loop Inv-loop μ-loop) → length (cut (c .before .before .before .before .before .size-to .result) (c .before .loop .i) (c .before .loop .output)) ≡ conversion c .to
-long-to c = length-cut (c .before .loop .i) (c .before .loop .output) (c .before .before .before .before .before .size-to .ensures .0) (room-to c)
-
 passes : (c : tie.In-loop Inv-loop μ-loop) → (settingCheck (settingOf (here c)) ≡ Passed) × (conversion c .inner (here c) ≡ Passed)
 passes c =
     let n = c .before .before .before .before .before .before .before .before .before .args .n in
@@ -85,7 +82,7 @@ write-record-requires : tie.Need-write-record-requires Inv-loop μ-loop
 write-record-requires c κs =
     let k = kept (c .before .before .before) in
     let h = c .before .before .before .before .before .before .before in
-    (k .0, ((k .1 ∙ ap settingOf (sym (cut-is h)), long-from h, ap (conversion h .inner) (cut-is h) ∙ passes h .1), long-to h))
+    (k .0, ((k .1 ∙ ap settingOf (sym (cut-is h)), long-from h, ap (conversion h .inner) (cut-is h) ∙ passes h .1), simp (length-take, length-drop) (omega (arith, room-to h, h .before .before .before .before .before .size-to .ensures .0))))
 
 written : (c : tie.After-write-record Inv-loop μ-loop) → c .write-record .last .1 .1 .1 .1 .1 .0 ≡ conversion (c .before .before .before .before .before .before .before .before) .bytes (here (c .before .before .before .before .before .before .before .before))
 written c = c .write-record .ensures ∙ ap (conversion (c .before .before .before .before .before .before .before .before) .bytes) (cut-is (c .before .before .before .before .before .before .before .before))
