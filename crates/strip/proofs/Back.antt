@@ -151,7 +151,7 @@ module _ (c : Conversion) (long : (r : List ℕ) → length (c .bytes r) ≡ c .
       (whole-done (reverse c inner bytes) (image input n) other n p (back-whole input output n h w other room), back-written input output n h w other)
 
   -- two strips that are converted whole are one where what is written of them is one
-  same-strip : (input input′ output output′ : List ℕ) (n : ℕ) → IsBytes input → IsBytes input′ → Whole c input output n → Whole c input′ output′ n
+  pub same-strip : (input input′ output output′ : List ℕ) (n : ℕ) → IsBytes input → IsBytes input′ → Whole c input output n → Whole c input′ output′ n
       → image input n ≡ image input′ n → input ≡ input′
   same-strip input input′ output output′ n h h′ w w′ e =
       let p : outputAfter (reverse c inner bytes) (image input n) [] (Done n) ≡ input ++ drop (length input) [] = back-written input output n h w [] in

@@ -18,10 +18,10 @@ use Rattle.strip.proofs.FirstPass.{never}
 refused-at : {why why′ : Refusal} {k k′ : ℕ} → Refused why k ≡ Refused why′ k′ → (why ≡ why′) × (k ≡ k′)
 refused-at e = (cc, cc)
 
-at-start : (size : ℕ) (s : List ℕ) → recordAt size 0 s ≡ take size s
+pub at-start : (size : ℕ) (s : List ℕ) → recordAt size 0 s ≡ take size s
 at-start size s = rw zero-mul
 
-at-later : (size k : ℕ) (s : List ℕ) → recordAt size (suc k) s ≡ recordAt size k (drop size s)
+pub at-later : (size k : ℕ) (s : List ℕ) → recordAt size (suc k) s ≡ recordAt size k (drop size s)
 at-later size k s =
     let e : size + k * size ≡ suc k * size = rw suc-mul (omega arith) in
     ap (take size) (sym (drop-drop (k * size) size s ∙ ap (λ (j : ℕ). drop j s) e))

@@ -83,7 +83,7 @@ scan-count f size (suc n) s k m e =
 pub counted : (c : Conversion) (n : ℕ) (input : List ℕ) (a : Answer) (m : ℕ) → a ≡ scanOf c n input → a ≡ Done m → m ≡ n
 counted c n input a m e h = omega (arith, scan-count (recordCheck c) (c .from) n input 0 m (sym h ∙ e))
 
-scan-passes : (f : List ℕ → Check) (size n : ℕ) (s : List ℕ) (k m : ℕ) → Done m ≡ scan f k (records size n s) → (i : ℕ) → i < n → f (take size (drop (i * size) s)) ≡ check.Check.Passed
+pub scan-passes : (f : List ℕ → Check) (size n : ℕ) (s : List ℕ) (k m : ℕ) → Done m ≡ scan f k (records size n s) → (i : ℕ) → i < n → f (take size (drop (i * size) s)) ≡ check.Check.Passed
 unfolding scan records
 scan-passes f size zero s k m e i h = absurd (omega arith)
 scan-passes f size (suc n) s k m e zero h = rw zero-mul (go-on f (take size s) k m (scan f (suc k) (records size n (drop size s))) e .0)

@@ -1,0 +1,3 @@
+pub mod Single
+pub mod Strips
+pub mod Theorems

@@ -1,0 +1,195 @@
+-- One record: an ACES record passes the checks of the way back exactly where a pixel gives it; and pixel to ACES and back returns a record.
+-- Assumes nothing.
+use mathlib.Core.Path.{_≡_, refl, ap, sym, _∙_, subst}
+use mathlib.Core.List.{List}
+use Prim.Native.Nat.{ℕ, _+_, _*_, _^_, _≤_, _<_}
+use native.Mathlib.Nat.{le-trans}
+use native.Mathlib.Omega.{arith}
+use lib.Dec.{lit≤, lit<}
+use lib.IntN.{ℤ, natAbs}
+use lib.ListN.{length, drop}
+use Rattle.whole.specs.Parts.{up, dn}
+use Rattle.whole.proofs.Reflect.{abs-is}
+use Rattle.rules.specs.declared.Check.{Check}
+use Rattle.rules.specs.declared.Check.the-variants.{Passed, Refused}
+use Rattle.rules.specs.declared.Found.{Found}
+use Rattle.rules.specs.declared.Found as found
+use Rattle.rules.specs.declared.Pixel.{Pixel}
+use Rattle.rules.specs.declared.Refusal.{Refusal}
+use Rattle.rules.specs.declared.Setting.{Setting}
+use Rattle.rules.specs.declared.Triple.{Triple}
+use Rattle.rules.specs.Setting.{settingCheck, codeCheck, Valid}
+use Rattle.rules.specs.Matrix.{matrixOf, IsAces}
+use Rattle.rules.specs.Record.{IsBytes, toBits, ofBits, numberBytes, codeBytes, settingOf, Channels, channelAt, channelsOf, recordOf}
+use Rattle.rules.specs.Strip.{recordCheck}
+use Rattle.rules.specs.WayBack.{IsPixel, foundCheck}
+use Rattle.rules.proofs.Records.{FitsRecord, value-small, drop-bytes, read-setting, read-channels, write-read, of-to, to-of, bits-fit, length-record}
+use Rattle.rules.proofs.Settings.{code-passed}
+use Rattle.curve.specs.Decoded.{decoded}
+use Rattle.matrix.specs.Row.{Small3, Given}
+use Rattle.matrix.proofs.Inverse.{aces-small}
+use Rattle.matrix.proofs.Theorems.{decoded-small}
+use Rattle.wayback.specs.Back.{pixelAces, pixelFor}
+use Rattle.wayback.proofs.Theorems.{found-gives, own-found, one-pixel}
+use Rattle.conversion.specs.Conversions.{channelChecks, pixelIn, pixelRecord, tripleIn, acesRecord, pixelFound, pixelToAces, acesToPixel}
+use Rattle.conversion.proofs.Channels.{both, codes-pixel}
+use Rattle.conversion.proofs.Good.{Good}
+use Rattle.promise.specs.Words.{given, HoldsPixel, Without, OnlyPixel}
+
+-- ---- numbers in eight bytes
+below : (x : ℤ) → natAbs x ≤ 2 ^ 38 → (2 * up x < 256 ^ 8) × (2 * dn x ≤ 256 ^ 8)
+below x h = (omega (arith, abs-is x), omega (arith, abs-is x))
+
+-- the ACES numbers of a pixel are small
+pixel-given : (s : Setting) → Valid s → (p : Pixel) → IsPixel s p → Given (pixelAces s p .red .0) (pixelAces s p .green .0) (pixelAces s p .blue .0)
+pixel-given s v p i =
+    aces-small s (decoded s (p .red .0)) (decoded s (p .green .0)) (decoded s (p .blue .0))
+    (record {
+      red = decoded-small s v (p .red .0) (code-passed s (p .red .0) (i .red));
+      green = decoded-small s v (p .green .0) (code-passed s (p .green .0) (i .green));
+      blue = decoded-small s v (p .blue .0) (code-passed s (p .blue .0) (i .blue));
+    })
+    (record { red-is = refl; green-is = refl; blue-is = refl })
+
+-- the setting of a record fits its bytes
+pub record FitsSetting (s : Setting) : Type 0 where
+  pub curve : s .curve < 256
+  pub width : s .width < 256
+  pub ei : s .ei < 65536
+
+fits-setting : (r : List ℕ) → IsBytes r → FitsSetting (settingOf r)
+fits-setting r h = record { curve = h 0; width = h 1; ei = value-small 2 (drop 2 r) (drop-bytes 2 r h) }
+
+-- ---- what is read of an ACES record that was written
+module _ (s : Setting) (f : FitsSetting s) (a : Triple) (g : Given (a .red .0) (a .green .0) (a .blue .0)) where
+  abbrev channels : Channels
+  channels = record { red = toBits 8 (a .red .0); green = toBits 8 (a .green .0); blue = toBits 8 (a .blue .0) }
+
+  fits : FitsRecord 8 s channels
+  fits =
+      let r = below (a .red .0) (g .red) in
+      let e = below (a .green .0) (g .green) in
+      let b = below (a .blue .0) (g .blue) in
+      record {
+        curve = f .curve;
+        width = f .width;
+        ei = f .ei;
+        red = bits-fit 8 (a .red .0) (r .0) (r .1);
+        green = bits-fit 8 (a .green .0) (e .0) (e .1);
+        blue = bits-fit 8 (a .blue .0) (b .0) (b .1);
+      }
+
+  pub setting-read : settingOf (acesRecord s a) ≡ s
+  setting-read = read-setting 8 s channels fits
+
+  pub triple-read : tripleIn (acesRecord s a) ≡ a
+  triple-read =
+      let e = read-channels 8 s channels fits in
+      let r = below (a .red .0) (g .red) in
+      let n = below (a .green .0) (g .green) in
+      let b = below (a .blue .0) (g .blue) in
+      let er = ap (λ (c : Channels). ofBits 8 (c .red)) e ∙ of-to 8 (a .red .0) (r .0) (r .1) in
+      let eg = ap (λ (c : Channels). ofBits 8 (c .green)) e ∙ of-to 8 (a .green .0) (n .0) (n .1) in
+      let eb = ap (λ (c : Channels). ofBits 8 (c .blue)) e ∙ of-to 8 (a .blue .0) (b .0) (b .1) in
+      λ i. record { red = record { 0 = er i }; green = record { 0 = eg i }; blue = record { 0 = eb i } }
+
+-- ---- an ACES record is the record of its setting and numbers
+pub record-read : (r : List ℕ) → IsBytes r → length r ≡ 28 → acesRecord (settingOf r) (tripleIn r) ≡ r
+record-read r h l =
+    let c = channelsOf 8 r in
+    let er = to-of 8 (c .red) (value-small 8 (drop 4 r) (drop-bytes 4 r h)) in
+    let eg = to-of 8 (c .green) (value-small 8 (drop 12 r) (drop-bytes 12 r h)) in
+    let eb = to-of 8 (c .blue) (value-small 8 (drop 20 r) (drop-bytes 20 r h)) in
+    ap (recordOf 8 (settingOf r)) (λ i. record { red = er i; green = eg i; blue = eb i }) ∙ write-read 8 r h l
+
+-- ---- what the way back says of an ACES record
+module _ (r : List ℕ) (h : IsBytes r) (l : length r ≡ 28) where
+  abbrev s : Setting
+  s = settingOf r
+
+  -- a pixel that gives the record gives its numbers, and the other way round
+  numbers-given : Valid s → (p : Pixel) → IsPixel s p → given s p ≡ r → pixelAces s p ≡ tripleIn r
+  numbers-given v p i e = sym (triple-read s (fits-setting r h) (pixelAces s p) (pixel-given s v p i)) ∙ ap tripleIn e
+
+  record-given : (p : Pixel) → pixelAces s p ≡ tripleIn r → given s p ≡ r
+  record-given p e = ap (acesRecord s) e ∙ record-read r h l
+
+  passed-valid : recordCheck acesToPixel r ≡ Passed → Valid s × (foundCheck (pixelFor s (tripleIn r)) ≡ Passed)
+  passed-valid e = both (settingCheck s) (foundCheck (pixelFor s (tripleIn r))) e
+
+  -- THE RECORD PASSES: it comes back as the only pixel that gives it
+  pub passed-only : recordCheck acesToPixel r ≡ Passed → OnlyPixel r (acesToPixel .bytes r)
+  passed-only e = let v = passed-valid e in go (v .0) (pixelFor s (tripleIn r)) refl (v .1)
+    where
+      go : Valid s → (f : Found) → pixelFor s (tripleIn r) ≡ f → foundCheck f ≡ Passed → OnlyPixel r (pixelRecord s (pixelFound (pixelFor s (tripleIn r))))
+      go v (found.Found.Pixel p) e k =
+          let g = found-gives s (tripleIn r) p e in
+          record {
+            pixel = p;
+            valid = v;
+            is-pixel = g .0;
+            gives = record-given p (g .1);
+            only = λ q i m. one-pixel s v q p i (g .0) (numbers-given v q i m ∙ sym (g .1));
+            holds = ap (λ (f : Found). pixelRecord s (pixelFound f)) e;
+          }
+      go v found.Found.Nothing e k = absurd (clash k)
+        where
+          IsRefused : Check → Type 0
+          IsRefused Passed = ⊥
+          IsRefused (Refused why) = Unit {0}
+
+          clash : foundCheck found.Found.Nothing ≡ Passed → ⊥
+          clash k = subst IsRefused k tt
+
+  -- a pixel gives the record: it passes
+  pub given-passes : Valid s → (p : Pixel) → IsPixel s p → given s p ≡ r → recordCheck acesToPixel r ≡ Passed
+  given-passes v p i e =
+      rw v (ap (λ (a : Triple). foundCheck (pixelFor s a)) (sym (numbers-given v p i e)) ∙ ap foundCheck (own-found s v p i))
+
+  -- so a record without a pixel is refused, and what is refused is without one
+  pub not-both : Without r → recordCheck acesToPixel r ≡ Passed → ⊥
+  not-both (Without.no-setting n) e = n (passed-valid e .0)
+  not-both (Without.no-pixel n) e = let o = passed-only e in n (o .pixel) (o .is-pixel) (o .gives)
+
+  refused-passed : (why : Refusal) → Refused why ≡ Passed → ⊥
+  refused-passed why e = subst IsRefused e tt
+    where
+      IsRefused : Check → Type 0
+      IsRefused Passed = ⊥
+      IsRefused (Refused why) = Unit {0}
+
+  pub refused-without : (why : Refusal) → recordCheck acesToPixel r ≡ Refused why → Without r
+  refused-without why e = go (settingCheck s) refl
+    where
+      go : (x : Check) → settingCheck s ≡ x → Without r
+      go (Refused w) f = Without.no-setting (λ v. refused-passed w (sym f ∙ v))
+      go Passed f = Without.no-pixel (λ p i g. refused-passed why (sym e ∙ given-passes f p i g))
+
+-- ---- pixel to ACES and back
+module _ (r : List ℕ) (g : Good pixelToAces r) where
+  abbrev setting : Setting
+  setting = settingOf r
+
+  checked : (settingCheck setting ≡ Passed) × (channelChecks codeBytes (codeCheck setting) r ≡ Passed)
+  checked = both (settingCheck setting) (channelChecks codeBytes (codeCheck setting) r) (g .passes)
+
+  pixel : IsPixel setting (pixelIn r)
+  pixel = codes-pixel setting r (checked .1)
+
+  small : Given (pixelAces setting (pixelIn r) .red .0) (pixelAces setting (pixelIn r) .green .0) (pixelAces setting (pixelIn r) .blue .0)
+  small = pixel-given setting (checked .0) (pixelIn r) pixel
+
+  same-setting : settingOf (pixelToAces .bytes r) ≡ setting
+  same-setting = setting-read setting (fits-setting r (g .bytes)) (pixelAces setting (pixelIn r)) small
+
+  pub same-triple : tripleIn (pixelToAces .bytes r) ≡ pixelAces setting (pixelIn r)
+  same-triple = triple-read setting (fits-setting r (g .bytes)) (pixelAces setting (pixelIn r)) small
+
+  finds : pixelFor (settingOf (pixelToAces .bytes r)) (tripleIn (pixelToAces .bytes r)) ≡ found.Found.Pixel (pixelIn r)
+  finds = rw (same-setting, same-triple) (own-found setting (checked .0) (pixelIn r) pixel)
+
+  pub back-passes : recordCheck acesToPixel (pixelToAces .bytes r) ≡ Passed
+  back-passes = rw (finds, same-setting, checked .0)
+
+  pub back-same : acesToPixel .bytes (pixelToAces .bytes r) ≡ r
+  back-same = rw (finds, same-setting) (write-read codeBytes r (g .bytes) (g .long))

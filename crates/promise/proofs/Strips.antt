@@ -1,0 +1,89 @@
+-- Strips: where a record is written, an accepted pixel strip is converted whole, and its ACES strip.
+-- Assumes nothing.
+use mathlib.Core.Path.{_≡_, refl, ap, sym, _∙_, subst}
+use mathlib.Core.List.{List, [], _∷_, _++_, append-assoc, append-nil}
+use Prim.Native.Nat.{ℕ, zero, suc, _+_, _-_, _*_, _/_, _≤_, _<_}
+use native.Mathlib.Nat.{mul-le-mul-right, mul-div-cancel, suc-mul, le-of-eq, zero-add}
+use native.Mathlib.Omega.{arith}
+use lib.Dec.{lit<}
+use lib.ListN.{length, take, drop, length-drop}
+use lib.Seq.{take-at, drop-at, length-take-le}
+use Rattle.rules.specs.declared.Answer.the-variants.{Done}
+use Rattle.rules.specs.declared.Check.{Check}
+use Rattle.rules.specs.declared.Check.the-variants.{Passed}
+use Rattle.rules.specs.Setting.{codeCheck}
+use Rattle.rules.specs.Record.{IsBytes, codeBytes, settingOf, channelAt}
+use Rattle.rules.specs.Strip.{Conversion, recordCheck, records, recordAt, written, scanOf}
+use Rattle.rules.proofs.Records.{take-bytes, drop-bytes, length-record}
+use Rattle.conversion.specs.Conversions.{channelChecks, pixelToAces}
+use Rattle.conversion.proofs.Good.{Good}
+use Rattle.strip.proofs.Cut.{length-written}
+use Rattle.strip.proofs.First.{at-start, at-later, all-done}
+use Rattle.strip.proofs.Back.{Whole}
+use Rattle.promise.specs.Words.{Accepted, HoldsPixel, made}
+
+-- the k-th record that is written is that of the k-th record
+pub written-at : (f : List ℕ → List ℕ) (to : ℕ) → ((r : List ℕ) → length (f r) ≡ to) → (size n : ℕ) (s rest : List ℕ) (k : ℕ) → k < n
+    → recordAt to k (written f (records size n s) ++ rest) ≡ f (recordAt size k s)
+unfolding written records
+written-at f to long size zero s rest k h = absurd (omega arith)
+written-at f to long size (suc n) s rest zero h =
+    at-start to ((f (take size s) ++ written f (records size n (drop size s))) ++ rest)
+    ∙ ap (take to) (append-assoc (f (take size s)) (written f (records size n (drop size s))) rest)
+    ∙ take-at (f (take size s)) _ to (long (take size s))
+    ∙ ap f (sym (at-start size s))
+written-at f to long size (suc n) s rest (suc k) h =
+    at-later to k ((f (take size s) ++ written f (records size n (drop size s))) ++ rest)
+    ∙ ap (λ (l : List ℕ). recordAt to k (drop to l)) (append-assoc (f (take size s)) (written f (records size n (drop size s))) rest)
+    ∙ ap (recordAt to k) (drop-at (f (take size s)) _ to (long (take size s)))
+    ∙ written-at f to long size n (drop size s) rest k (omega arith)
+    ∙ ap f (sym (at-later size k s))
+
+-- the k-th of n records is whole
+pub length-at : (size n k : ℕ) (s : List ℕ) → n * size ≤ length s → k < n → length (recordAt size k s) ≡ size
+length-at size n k s h l =
+    let m : suc k * size ≤ n * size = mul-le-mul-right size l in
+    let e : suc k * size ≡ k * size + size = suc-mul k size in
+    length-take-le size (drop (k * size) s) (rw length-drop (omega arith))
+
+pub bytes-at : (size k : ℕ) (s : List ℕ) → IsBytes s → IsBytes (recordAt size k s)
+bytes-at size k s h = take-bytes size (drop (k * size) s) (drop-bytes (k * size) s h)
+
+pub aces-long : (r : List ℕ) → length (pixelToAces .bytes r) ≡ 28
+aces-long r = length-record 8 (settingOf r) _
+
+-- ---- an accepted strip
+holds-passes : (r : List ℕ) → HoldsPixel r → recordCheck pixelToAces r ≡ Passed
+unfolding channelChecks
+holds-passes r h = rw (h .valid, h .pixel .red, h .pixel .green, h .pixel .blue)
+
+module _ (pixels : List ℕ) (n : ℕ) (a : Accepted pixels n) where
+  pub accepted-good : (k : ℕ) → k < n → Good pixelToAces (recordAt 10 k pixels)
+  accepted-good k h =
+      record {
+        long = length-at 10 n k pixels (le-of-eq (sym (a .long))) h;
+        bytes = bytes-at 10 k pixels (a .bytes);
+        passes = holds-passes (recordAt 10 k pixels) (a .each k h);
+      }
+
+  -- is converted whole, with room for n ACES records
+  pub accepted-whole : (output : List ℕ) → n * 28 ≤ length output → Whole pixelToAces pixels output n
+  accepted-whole output room =
+      record {
+        long = a .long;
+        room = room;
+        passes = sym (all-done (recordCheck pixelToAces) 10 n pixels 0 (λ k h. accepted-good k h .passes) ∙ ap Done (zero-add n));
+      }
+
+  -- its ACES strip has n records
+  pub made-records : made pixels ≡ written (pixelToAces .bytes) (records 10 n pixels)
+  made-records = ap (λ (m : ℕ). written (pixelToAces .bytes) (records 10 m pixels)) (ap (λ (m : ℕ). m / 10) (a .long) ∙ mul-div-cancel n (lit< tt))
+
+  pub made-long : length (made pixels) ≡ n * 28
+  made-long = ap length made-records ∙ length-written (pixelToAces .bytes) 28 aces-long 10 n pixels
+
+  -- the k-th is that of the k-th pixel record
+  pub made-at : (k : ℕ) → k < n → recordAt 28 k (made pixels) ≡ pixelToAces .bytes (recordAt 10 k pixels)
+  made-at k h =
+      ap (recordAt 28 k) (made-records ∙ sym (append-nil (written (pixelToAces .bytes) (records 10 n pixels))))
+      ∙ written-at (pixelToAces .bytes) 28 aces-long 10 n pixels [] k h

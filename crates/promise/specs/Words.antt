@@ -1,0 +1,73 @@
+-- 01, "ACES and the way back": "Words of demand 3, for these two conversions." A valid setting is Valid, a pixel of it IsPixel.
+-- Assumes nothing.
+use mathlib.Core.List.{List, _++_}
+use mathlib.Core.Path.{_≡_}
+use Prim.Native.Nat.{ℕ, _*_, _/_, _<_}
+use lib.IntN.{ℤ}
+use lib.ListN.{length}
+use Rattle.rules.specs.declared.Answer.{Answer}
+use Rattle.rules.specs.declared.Answer.the-variants.{Refused}
+use Rattle.rules.specs.declared.Pixel.{Pixel}
+use Rattle.rules.specs.declared.Refusal.{Refusal}
+use Rattle.rules.specs.declared.Setting.{Setting}
+use Rattle.rules.specs.Setting.{Valid}
+use Rattle.rules.specs.Exact.{scaleOf}
+use Rattle.rules.specs.ExactRow.{TwoUnits}
+use Rattle.rules.specs.Matrix.{matrixOf}
+use Rattle.rules.specs.Record.{IsBytes, numberBytes, ofBits, settingOf, channelAt}
+use Rattle.rules.specs.Strip.{records, recordAt, written}
+use Rattle.rules.specs.WayBack.{IsPixel}
+use Rattle.wayback.specs.Back.{pixelAces}
+use Rattle.conversion.specs.Conversions.{pixelIn, pixelRecord, acesRecord, pixelToAces}
+
+-- "It gives the ACES record that holds this setting and the pixel's three ACES numbers."
+abbrev pub given : Setting → Pixel → List ℕ
+given s p = acesRecord s (pixelAces s p)
+
+-- "A pixel strip is accepted where it is a whole number of records and each holds a valid setting and a pixel of it"
+pub record HoldsPixel (r : List ℕ) : Type 0 where
+  pub valid : Valid (settingOf r)
+  pub pixel : IsPixel (settingOf r) (pixelIn r)
+
+pub record Accepted (pixels : List ℕ) (n : ℕ) : Type 0 where
+  pub bytes : IsBytes pixels
+  pub long : length pixels ≡ n * 10
+  pub each : (k : ℕ) → k < n → HoldsPixel (recordAt 10 k pixels)
+
+-- "The ACES strip made from it .. one record for each of its records, in order, without the bytes beyond the last." (that this is "what
+-- pixel to ACES writes for it into an output long enough" is the theorem made-is-written)
+abbrev pub made : List ℕ → List ℕ
+made pixels = written (pixelToAces .bytes) (records 10 (length pixels / 10) pixels)
+
+-- the i-th number of an ACES record
+abbrev pub numberIn : (i : ℕ) → List ℕ → ℤ
+numberIn i r = ofBits numberBytes (channelAt numberBytes r i)
+
+-- the i-th number of the ACES record a is less than two units from what the exact curve and matrix give for the pixel record r
+abbrev pub NearExact : (i : ℕ) → (r a : List ℕ) → Type 0
+NearExact i r a = TwoUnits (matrixOf (settingOf r)) i (scaleOf (settingOf r)) (pixelIn r .red .0) (pixelIn r .green .0) (pixelIn r .blue .0) (numberIn i a)
+
+-- an ACES record that "has no valid setting or no pixel of its setting gives it"
+pub data Without (r : List ℕ) : Type 0 where
+  no-setting : (Valid (settingOf r) → ⊥) → Without r
+  no-pixel : ((p : Pixel) → IsPixel (settingOf r) p → given (settingOf r) p ≡ r → ⊥) → Without r
+
+-- an ACES record r and "the only pixel of its setting that gives it", in the pixel record out
+pub record OnlyPixel (r out : List ℕ) : Type 0 where
+  pub pixel : Pixel
+  pub valid : Valid (settingOf r)
+  pub is-pixel : IsPixel (settingOf r) pixel
+  pub gives : given (settingOf r) pixel ≡ r
+  pub only : (q : Pixel) → IsPixel (settingOf r) q → given (settingOf r) q ≡ r → q ≡ pixel
+  pub holds : out ≡ pixelRecord (settingOf r) pixel
+
+-- "refuses .. and reports the first such record": the answer is a refusal at the k-th record
+pub record RefusedAt (k : ℕ) (answer : Answer) : Type 0 where
+  pub why : Refusal
+  pub is : answer ≡ Refused why k
+
+-- the k-th of n records is the first without a pixel
+pub record FirstWithout (aces : List ℕ) (n k : ℕ) : Type 0 where
+  pub in-range : k < n
+  pub without : Without (recordAt 28 k aces)
+  pub before : (j : ℕ) → j < k → Without (recordAt 28 j aces) → ⊥
