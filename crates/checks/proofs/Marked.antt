@@ -3,17 +3,18 @@
 use mathlib.Core.Bool.{Bool, true, false}
 use mathlib.Core.List.{List}
 use mathlib.Core.Logic.{_⊎_, inl, inr}
-use mathlib.Core.Path.{_≡_, refl, ap, _∙_, subst}
+use mathlib.Core.Path.{_≡_, refl, sym, ap, _∙_, subst}
 use Prim.Native.Nat.{ℕ, zero, suc, _+_, _-_, _*_, _^_, _≤_, _<_}
 use native.Mathlib.Nat.{le-refl}
 use native.Mathlib.Omega.{arith}
 use borrow.Author.Tests.{eqb-true, eqb-false}
-use lib.Dec.{eqb, lit<}
-use lib.IntN.{ℤ, pos, negsuc, subℕ}
+use lib.Dec.{T, eqb, leb, lit<, lit≤}
+use lib.IntN.{ℤ, pos, negsuc, natAbs, subℕ, _-ℤ_}
 use lib.ListN.{length}
 use lib.Signed.{_≤ℤ_}
 use Rattle.whole.specs.Parts.{up, dn}
 use Rattle.whole.proofs.Reflect.{one-zero, at, leZ-of, sub-dif}
+use Rattle.whole.proofs.Near.{near-test}
 use Rattle.whole.proofs.Tidy.{tidy}
 use Rattle.rules.specs.Fraction.{Fraction, whole, ratio, integer, _+ℚ_, _-ℚ_, _*ℚ_, VersusPower}
 use Rattle.rules.specs.declared.Setting.{Setting}
@@ -26,10 +27,20 @@ use Rattle.rules.proofs.Values as values
 use Rattle.rules.specs.declared.Answer.the-variants.{Refused}
 use Rattle.rules.specs.declared.Refusal.the-variants.{PartialRecord}
 use Rattle.rules.specs.Matrix.{matrixOf, acesNumber, IsAces}
+use Rattle.rules.specs.declared.Triple.{Triple}
+use Rattle.rules.specs.declared.Found.{Found}
+use Rattle.rules.specs.declared.Found as found
+use Rattle.rules.specs.Refusal.{numberOfCheck}
+use Rattle.rules.specs.WayBack.{pixel, triple, equal3, tried, foundCheck}
 use Rattle.rules.specs.Strip.{answerOf}
 use Rattle.curve.specs.Decoded.{offset, raw, decoded}
 use Rattle.curve.proofs.Limit.{raw-limited}
-use Rattle.encode.proofs.Theorems.{nearest-only, encoded-last}
+use Rattle.curve.proofs.Theorems.{decoding}
+use Rattle.encode.proofs.Theorems.{nearest-only, encoded-last, encode-near}
+use Rattle.matrix.specs.Inverse.{candidate}
+use Rattle.wayback.specs.Back.{pixelFor}
+use Rattle.wayback.specs.Candidate.{codeFor, candidatePixel}
+use Rattle.wayback.proofs.Only.{trying-finds}
 use Rattle.conversion.specs.Conversions.{pixelToScene}
 use Rattle.checks.specs.Marked.{Marked, setting, limit}
 
@@ -80,12 +91,47 @@ pixel-100 x y h g = rw (code-100 x h, code-0 y g) (record { red-is = refl; green
 scene-limit : (s : Setting) → Valid s → (n : ℕ) → IsNearest (decoded s) (topOf (s .width)) (pos limit) n → n ≡ topOf (s .width)
 scene-limit s v n i = nearest-only s (pos limit) n i ∙ encoded-last s v (pos limit) (not-above (raw s (topOf (s .width))) (raw-limited s v (topOf (s .width)) (le-refl _)))
   where
-    not-above : (u : ℕ) → u ≤ limit → subℕ u offset ≤ℤ pos (2 ^ 40)
+    not-above : (u : ℕ) → u ≤ 2 ^ 33 → subℕ u offset ≤ℤ pos limit
     not-above u h = leZ-of (at (subℕ u offset)) (at (pos limit)) (omega (arith, sub-dif u offset))
 
 eleven-bytes : (input output : List ℕ) → length input ≡ 11 → answerOf pixelToScene input output ≡ Refused PartialRecord 0
 unfolding answerOf
 eleven-bytes input output e = rw e
+
+-- the triple next to that of pixel 0, 0, 0
+abbrev next-triple : Triple
+next-triple = triple (negsuc 290084) (negsuc 290084) (negsuc 290083)
+
+valid-800 : Valid (setting 3 12 800)
+unfolding settingCheck
+valid-800 = refl
+
+decoded-0 : decoded (setting 3 12 800) 0 ≡ negsuc 290084
+decoded-0 = code-0 (decoded (setting 3 12 800) 0) (decoding (setting 3 12 800) valid-800 0 (lit≤ tt))
+
+near-0 : (i : ℕ) → T (leb (natAbs (candidate (setting 3 12 800) i (negsuc 290084) (negsuc 290084) (negsuc 290083) -ℤ negsuc 290084)) 13) → codeFor (setting 3 12 800) i next-triple ≡ 0
+near-0 i t =
+    encode-near (setting 3 12 800) valid-800 (candidate (setting 3 12 800) i (negsuc 290084) (negsuc 290084) (negsuc 290083)) 0 (lit≤ tt)
+    (rw decoded-0 (near-test (candidate (setting 3 12 800) i (negsuc 290084) (negsuc 290084) (negsuc 290083)) (negsuc 290084) 13 t))
+
+first-pixel : candidatePixel (setting 3 12 800) next-triple ≡ pixel 0 0 0
+unfolding acesNumber
+first-pixel =
+    let r = near-0 0 tt in
+    let g = near-0 1 tt in
+    let b = near-0 2 tt in
+    λ i. record { red = record { 0 = r i }; green = record { 0 = g i }; blue = record { 0 = b i } }
+
+first-tried : tried (decoded (setting 3 12 800)) (matrixOf (setting 3 12 800)) next-triple (pixel 0 0 0) ≡ found.Found.Nothing
+unfolding acesNumber equal3
+first-tried = rw decoded-0
+
+nothing-found : pixelFor (setting 3 12 800) next-triple ≡ found.Found.Nothing
+nothing-found =
+    sym (trying-finds (setting 3 12 800) valid-800 next-triple) ∙ ap (tried (decoded (setting 3 12 800)) (matrixOf (setting 3 12 800)) next-triple) first-pixel ∙ first-tried
+
+no-pixel : numberOfCheck (foundCheck (pixelFor (setting 3 12 800) next-triple)) ≡ 10
+no-pixel = ap (λ (f : Found). numberOfCheck (foundCheck f)) nothing-found
 
 -- THE LIST
 pub marked : Marked
@@ -108,4 +154,5 @@ marked =
       scene-limit = scene-limit;
       scene-limit-passes = refl;
       scene-past-limit = refl;
+      no-pixel = no-pixel;
     }

@@ -19,8 +19,10 @@ use Rattle.rules.specs.Exact.{signal, scaleOf, VersusExact}
 use Rattle.rules.specs.Decoding.{Decodes}
 use Rattle.rules.specs.Encoding.{IsNearest, sceneCheck}
 use Rattle.rules.specs.Matrix.{matrixOf, IsAces}
+use Rattle.rules.specs.WayBack.{triple, foundCheck}
 use Rattle.rules.specs.Strip.{answerOf}
 use Rattle.curve.specs.Decoded.{decoded}
+use Rattle.wayback.specs.Back.{pixelFor}
 use Rattle.conversion.specs.Conversions.{pixelToScene}
 
 abbrev pub setting : (curve width ei : ℕ) → Setting
@@ -59,3 +61,5 @@ pub record Marked : Type 0 where
   pub scene-limit : (s : Setting) → Valid s → (n : ℕ) → IsNearest (decoded s) (topOf (s .width)) (pos limit) n → n ≡ topOf (s .width)
   pub scene-limit-passes : sceneCheck (pos limit) ≡ Passed
   pub scene-past-limit : numberOfCheck (sceneCheck (pos (limit + 1))) ≡ 7
+  -- "ACES -290085, -290085, -290084 under curve 3, width 12, EI 800: 10."
+  pub no-pixel : numberOfCheck (then (settingCheck (setting 3 12 800)) (foundCheck (pixelFor (setting 3 12 800) (triple (negsuc 290084) (negsuc 290084) (negsuc 290083))))) ≡ 10
