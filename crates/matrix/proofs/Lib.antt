@@ -1,6 +1,8 @@
-pub mod Sums
-pub mod Scales
+pub mod Rounding
+pub mod Split
+pub mod Sizes
+pub mod Dot
+pub mod Greys
 pub mod TwoUnits
-pub mod Product
 pub mod Inverse
 pub mod Theorems

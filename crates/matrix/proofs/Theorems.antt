@@ -16,7 +16,7 @@ use Rattle.curve.specs.Decoded.{offset, raw, decoded}
 use Rattle.curve.proofs.Close.{decoded-close}
 use Rattle.curve.proofs.Limit.{raw-limited}
 use Rattle.matrix.specs.Row.{Number}
-use Rattle.matrix.proofs.Scales.{greys-stay}
+use Rattle.matrix.proofs.Greys.{greys-stay}
 use Rattle.matrix.proofs.TwoUnits.{matrix-two-units}
 
 limited : (u : ℕ) → u ≤ 2 ^ 33 → natAbs (subℕ u offset) ≤ 2 ^ 33

@@ -17,7 +17,7 @@ use Rattle.rules.specs.Exact.{Scale}
 use Rattle.rules.specs.Decoding.{unit, Less, Greater}
 use Rattle.rules.specs.Choice.{choose}
 use Rattle.rules.specs.Matrix.{Matrix, logC3Matrix, logC4Matrix, entry, acesNumber}
-use Rattle.matrix.proofs.Scales.{nearest-of}
+use Rattle.matrix.proofs.Greys.{nearest-of}
 use Rattle.rules.specs.ExactRow.{Close, Beyond, Short, RowLess, RowGreater, TwoUnits}
 
 -- a fraction beyond the exact value, one unit from y

@@ -1,49 +1,65 @@
 // ACES numbers: a row of the matrix times three scene numbers, over the scale, rounded once. And the scene numbers that a way back tries.
 ghost use mathlib.Core.Path.{_≡_};
-ghost use Prim.Native.Nat.{_<_};
-ghost use Rattle.rules.specs.Matrix.{matrixOf, acesNumber, IsAces};
-ghost use Rattle.matrix.specs.Inverse.{inverseRows, IsCandidate};
-ghost use Rattle.matrix.specs.Row.{Entry, Number, Given, Sums, RowFits, MatrixFits, low, middle, high, stepOf, rowOf, wide, wideRows};
+ghost use Prim.Native.Nat.{_^_, _<_};
+ghost use Rattle.rules.specs.Fraction.{integer, whole, _/ℚ_, nearest};
+ghost use Rattle.rules.specs.Matrix.{logC3Matrix, logC4Matrix, matrixOf, rowProduct, IsAces};
+ghost use Rattle.matrix.specs.Row.{Number, Given, Sum, SmallRow, SmallRows, IsProducts, plain, joined, pair};
+ghost use Rattle.matrix.specs.Inverse.{lowRows, highRows, IsCandidate};
 use rules::Aces;
 use rules::Scene;
 use rules::Setting;
 use rules::Triple;
 
-const BASE: i64 = 1000000;
-
-// The matrix of curve 4, over 10^18.
-const LOG_C4: [[i64; 3]; 3] = [
-    [750957362824734131, 144422786709757084, 104619850465508965],
-    [821837079380207, 1007397584885003194, -8219421964383583],
-    [-499952143533471, -854177231436971, 1001354129374970370],
-];
-
-// The matrix of curve 3, whose entries over 10^6 are these over 10^18.
+// The matrix of curve 3, over 10^6.
 const LOG_C3: [[i64; 3]; 3] = [
-    [680205000000000000, 236137000000000000, 83658000000000000],
-    [85415000000000000, 1017471000000000000, -102886000000000000],
-    [2057000000000000, -62563000000000000, 1060506000000000000],
+    [680205, 236137, 83658],
+    [85415, 1017471, -102886],
+    [2057, -62563, 1060506],
 ];
 
-// The inverse of each, over 10^18.
-const LOG_C4_INVERSE: [[i64; 3]; 3] = [
-    [
-        1331748922051992428,
-        -191041831151284855,
-        -140707090900707858,
-    ],
-    [-1081026063187816, 992818721501261530, 8262304561926467],
-    [663988214432721, 751513727048606, 998584498058518745],
+// The matrix of curve 4, over 10^18, by the digits of its entries to the base 10^6: the entry 821837079380207 is 821, 837079 and 380207. The
+// lower two digits are not below 0.
+const LOG_C4_HIGH: [[i64; 3]; 3] = [
+    [750957, 144422, 104619],
+    [821, 1007397, -8220],
+    [-500, -855, 1001354],
 ];
 
-const LOG_C3_INVERSE: [[i64; 3]; 3] = [
-    [
-        1515987375777148635,
-        -361342725455526675,
-        -154644650321621960,
-    ],
-    [-128327483089980260, 1019314594909953857, 109012888180026404],
-    [-10510962084638870, 60833848170225780, 949677113914413090],
+const LOG_C4_MIDDLE: [[i64; 3]; 3] = [
+    [362824, 786709, 850465],
+    [837079, 584885, 578035],
+    [47856, 822768, 129374],
+];
+
+const LOG_C4_LOW: [[i64; 3]; 3] = [
+    [734131, 757084, 508965],
+    [380207, 3194, 616417],
+    [466529, 563029, 970370],
+];
+
+// The inverse of each, over 2^40, by two digits to the base 2^21.
+const LOG_C3_BACK_HIGH: [[i64; 3]; 3] = [
+    [794813, -189448, -81079],
+    [-67281, 534414, 57154],
+    [-5511, 31894, 497904],
+];
+
+const LOG_C3_BACK_LOW: [[i64; 3]; 3] = [
+    [2074653, 723845, 1395806],
+    [923891, 860537, 312723],
+    [479641, 957538, 659974],
+];
+
+const LOG_C4_BACK_HIGH: [[i64; 3]; 3] = [
+    [698219, -100161, -73772],
+    [-567, 520522, 4331],
+    [348, 394, 523545],
+];
+
+const LOG_C4_BACK_LOW: [[i64; 3]; 3] = [
+    [2052786, 126730, 2014788],
+    [484458, 1975220, 1734626],
+    [253866, 20193, 1823092],
 ];
 
 // The three scene numbers that a way back tries.
@@ -53,94 +69,104 @@ pub struct Scenes {
     pub blue: Scene,
 }
 
-// Three row products.
+// A number for each channel.
 struct Numbers {
     red: i64,
     green: i64,
     blue: i64,
 }
 
-// The digits of an entry to the base 10^6, the lower two not below 0.
-struct Digits {
-    low: i64,
-    middle: i64,
-    high: i64,
-}
-
-fn split(c: i64) -> Digits
-    requires { ⌜ Entry c ⌝ }
-    ensures { λ r. ⌜ (r .low ≡ low c) × (r .middle ≡ middle c) × (r .high ≡ high c) ⌝ }
-{
-    let rest = whole::floor_div(c, BASE);
-    let h = whole::floor_div(rest, BASE);
-    Digits {
-        low: c - BASE * rest,
-        middle: rest - BASE * h,
-        high: h,
-    }
-}
-
-// One digit of each entry of a row times the three numbers, and a carry, over the base, rounded down.
-fn step(c0: i64, c1: i64, c2: i64, x: i64, y: i64, z: i64, carry: i64) -> i64
-    requires { ⌜ Sums c0 c1 c2 x y z carry ⌝ }
-    ensures { λ r. ⌜ r ≡ stepOf c0 c1 c2 x y z carry ⌝ }
-{
-    whole::floor_div(c0 * x + c1 * y + c2 * z + carry, BASE)
-}
-
-// A row of entries over 10^18 times three numbers, to the nearest whole number, a half going up.
-fn row_of(c0: i64, c1: i64, c2: i64, x: i64, y: i64, z: i64) -> i64
-    requires { ⌜ Entry c0 ⌝ }
-    requires { ⌜ Entry c1 ⌝ }
-    requires { ⌜ Entry c2 ⌝ }
-    requires { ⌜ Number x ⌝ }
-    requires { ⌜ Number y ⌝ }
-    requires { ⌜ Number z ⌝ }
-    ensures { λ r. ⌜ r ≡ rowOf c0 c1 c2 x y z ⌝ }
-{
-    let p = split(c0);
-    let q = split(c1);
-    let r = split(c2);
-    let l = step(p.low, q.low, r.low, x, y, z, 0);
-    let m = step(p.middle, q.middle, r.middle, x, y, z, l);
-    step(p.high, q.high, r.high, x, y, z, m + 500000)
-}
-
-// The row i of a matrix over 10^18 times three numbers.
-fn row(m: [[i64; 3]; 3], i: usize, x: i64, y: i64, z: i64) -> i64
+// The row i of a matrix times three numbers.
+fn product(m: [[i64; 3]; 3], i: usize, x: i64, y: i64, z: i64) -> i64
     requires { ⌜ i < 3 ⌝ }
-    requires { ⌜ RowFits m i ⌝ }
+    requires { ⌜ SmallRow m i ⌝ }
     requires { ⌜ Number x ⌝ }
     requires { ⌜ Number y ⌝ }
     requires { ⌜ Number z ⌝ }
-    ensures { λ r. ⌜ r ≡ acesNumber (wide m) i x y z ⌝ }
+    ensures { λ r. ⌜ r ≡ rowProduct (plain m) i x y z ⌝ }
 {
     let c0 = m[i][0];
     let c1 = m[i][1];
     let c2 = m[i][2];
-    row_of(c0, c1, c2, x, y, z)
+    c0 * x + c1 * y + c2 * z
 }
 
-// The three rows of a matrix over 10^18 times three numbers.
-fn rows(m: [[i64; 3]; 3], x: i64, y: i64, z: i64) -> Numbers
-    requires { ⌜ MatrixFits m ⌝ }
+// The three rows of a matrix times three numbers.
+fn products(m: [[i64; 3]; 3], x: i64, y: i64, z: i64) -> Numbers
+    requires { ⌜ SmallRows m ⌝ }
     requires { ⌜ Number x ⌝ }
     requires { ⌜ Number y ⌝ }
     requires { ⌜ Number z ⌝ }
-    ensures { λ r. ⌜ IsAces (wide m) x y z (r .red) (r .green) (r .blue) ⌝ }
+    ensures { λ r. ⌜ IsProducts m x y z (r .red) (r .green) (r .blue) ⌝ }
 {
     Numbers {
-        red: row(m, 0, x, y, z),
-        green: row(m, 1, x, y, z),
-        blue: row(m, 2, x, y, z),
+        red: product(m, 0, x, y, z),
+        green: product(m, 1, x, y, z),
+        blue: product(m, 2, x, y, z),
     }
 }
 
-// The matrix of a setting, over 10^18.
-fn matrix_of(s: Setting) -> [[i64; 3]; 3]
-    ensures { λ m. ⌜ m ≡ wideRows s ⌝ }
+// A row product over 10^6, rounded once.
+fn over_million(p: i64) -> i64
+    requires { ⌜ Sum p ⌝ }
+    ensures { λ r. ⌜ r ≡ nearest (integer p /ℚ whole (10 ^ 6)) ⌝ }
 {
-    if s.curve == 3 { LOG_C3 } else { LOG_C4 }
+    whole::floor_div(p + 500000, 1000000)
+}
+
+// A row product over 10^18, of which l, m and h are those of the digits, rounded once.
+fn over_digits(l: i64, m: i64, h: i64) -> i64
+    requires { ⌜ Sum l ⌝ }
+    requires { ⌜ Sum m ⌝ }
+    requires { ⌜ Sum h ⌝ }
+    ensures { λ r. ⌜ r ≡ nearest (integer (joined h m l) /ℚ whole (10 ^ 18)) ⌝ }
+{
+    let carry = whole::floor_div(l, 1000000);
+    let second = whole::floor_div(m + carry, 1000000);
+    whole::floor_div(h + second + 500000, 1000000)
+}
+
+fn aces_c3(x: i64, y: i64, z: i64) -> Numbers
+    requires { ⌜ Number x ⌝ }
+    requires { ⌜ Number y ⌝ }
+    requires { ⌜ Number z ⌝ }
+    ensures { λ r. ⌜ IsAces logC3Matrix x y z (r .red) (r .green) (r .blue) ⌝ }
+{
+    let p = products(LOG_C3, x, y, z);
+    Numbers {
+        red: over_million(p.red),
+        green: over_million(p.green),
+        blue: over_million(p.blue),
+    }
+}
+
+fn aces_c4(x: i64, y: i64, z: i64) -> Numbers
+    requires { ⌜ Number x ⌝ }
+    requires { ⌜ Number y ⌝ }
+    requires { ⌜ Number z ⌝ }
+    ensures { λ r. ⌜ IsAces logC4Matrix x y z (r .red) (r .green) (r .blue) ⌝ }
+{
+    let l = products(LOG_C4_LOW, x, y, z);
+    let m = products(LOG_C4_MIDDLE, x, y, z);
+    let h = products(LOG_C4_HIGH, x, y, z);
+    Numbers {
+        red: over_digits(l.red, m.red, h.red),
+        green: over_digits(l.green, m.green, h.green),
+        blue: over_digits(l.blue, m.blue, h.blue),
+    }
+}
+
+fn aces_of(s: Setting, x: i64, y: i64, z: i64) -> Numbers
+    requires { ⌜ Number x ⌝ }
+    requires { ⌜ Number y ⌝ }
+    requires { ⌜ Number z ⌝ }
+    ensures { λ r. ⌜ IsAces (matrixOf s) x y z (r .red) (r .green) (r .blue) ⌝ }
+{
+    if s.curve == 3 {
+        aces_c3(x, y, z)
+    } else {
+        aces_c4(x, y, z)
+    }
 }
 
 // The ACES numbers of three scene numbers.
@@ -150,7 +176,7 @@ pub fn aces(s: Setting, x: Scene, y: Scene, z: Scene) -> Triple
     requires { ⌜ Number (z .0) ⌝ }
     ensures { λ r. ⌜ IsAces (matrixOf s) (x .0) (y .0) (z .0) (r .red .0) (r .green .0) (r .blue .0) ⌝ }
 {
-    let r = rows(matrix_of(s), x.0, y.0, z.0);
+    let r = aces_of(s, x.0, y.0, z.0);
     Triple {
         red: Aces(r.red),
         green: Aces(r.green),
@@ -158,14 +184,49 @@ pub fn aces(s: Setting, x: Scene, y: Scene, z: Scene) -> Triple
     }
 }
 
-// The inverse of the matrix of a setting, over 10^18.
-fn inverse_of(s: Setting) -> [[i64; 3]; 3]
-    ensures { λ m. ⌜ m ≡ inverseRows s ⌝ }
+// The digits of the inverse of a setting's matrix.
+fn high_of(s: Setting) -> [[i64; 3]; 3]
+    ensures { λ m. ⌜ m ≡ highRows s ⌝ }
 {
     if s.curve == 3 {
-        LOG_C3_INVERSE
+        LOG_C3_BACK_HIGH
     } else {
-        LOG_C4_INVERSE
+        LOG_C4_BACK_HIGH
+    }
+}
+
+fn low_of(s: Setting) -> [[i64; 3]; 3]
+    ensures { λ m. ⌜ m ≡ lowRows s ⌝ }
+{
+    if s.curve == 3 {
+        LOG_C3_BACK_LOW
+    } else {
+        LOG_C4_BACK_LOW
+    }
+}
+
+// A row product over 2^40, of which l and h are those of the digits, rounded once.
+fn over_binary(l: i64, h: i64) -> i64
+    requires { ⌜ Sum l ⌝ }
+    requires { ⌜ Sum h ⌝ }
+    ensures { λ r. ⌜ r ≡ nearest (integer (pair h l) /ℚ whole (2 ^ 40)) ⌝ }
+{
+    let carry = whole::floor_div(l, 2097152);
+    whole::floor_div(h + carry + 262144, 524288)
+}
+
+fn back_of(s: Setting, x: i64, y: i64, z: i64) -> Numbers
+    requires { ⌜ Number x ⌝ }
+    requires { ⌜ Number y ⌝ }
+    requires { ⌜ Number z ⌝ }
+    ensures { λ r. ⌜ IsCandidate s x y z (r .red) (r .green) (r .blue) ⌝ }
+{
+    let l = products(low_of(s), x, y, z);
+    let h = products(high_of(s), x, y, z);
+    Numbers {
+        red: over_binary(l.red, h.red),
+        green: over_binary(l.green, h.green),
+        blue: over_binary(l.blue, h.blue),
     }
 }
 
@@ -174,7 +235,7 @@ pub fn candidate(s: Setting, a: Triple) -> Scenes
     requires { ⌜ Given (a .red .0) (a .green .0) (a .blue .0) ⌝ }
     ensures { λ r. ⌜ IsCandidate s (a .red .0) (a .green .0) (a .blue .0) (r .red .0) (r .green .0) (r .blue .0) ⌝ }
 {
-    let r = rows(inverse_of(s), a.red.0, a.green.0, a.blue.0);
+    let r = back_of(s, a.red.0, a.green.0, a.blue.0);
     Scenes {
         red: Scene(r.red),
         green: Scene(r.green),

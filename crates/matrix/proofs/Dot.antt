@@ -9,7 +9,7 @@ use lib.IntN.{ℤ, pos, natAbs, _+ℤ_, _*ℤ_}
 use Rattle.whole.proofs.Reflect.{at, add, mul, eqZ}
 use Rattle.whole.proofs.Near.{Near, near-add, near-mul, near-more}
 use Rattle.rules.specs.Matrix.{entry}
-use Rattle.matrix.specs.Row.{wide}
+use Rattle.matrix.specs.Row.{plain}
 
 pub record Three : Type 0 where
   pub red : ℤ
@@ -38,10 +38,10 @@ dot-near n h = near-more (omega arith) (near-add (near-add (near-mul (n .red) (h
 
 -- ---- a matrix's rows and columns
 abbrev pub rowAt : List (List ℤ) → ℕ → Three
-rowAt m i = three (entry (wide m) i 0) (entry (wide m) i 1) (entry (wide m) i 2)
+rowAt m i = three (entry (plain m) i 0) (entry (plain m) i 1) (entry (plain m) i 2)
 
 abbrev pub columnAt : List (List ℤ) → ℕ → Three
-columnAt m j = three (entry (wide m) 0 j) (entry (wide m) 1 j) (entry (wide m) 2 j)
+columnAt m j = three (entry (plain m) 0 j) (entry (plain m) 1 j) (entry (plain m) 2 j)
 
 -- the row products of three numbers, and a row times each column
 abbrev pub times : List (List ℤ) → Three → Three

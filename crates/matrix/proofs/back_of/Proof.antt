@@ -1,0 +1,71 @@
+-- `back_of` meets its contract: the row products of the digits are joined and rounded once.
+-- Assumes nothing.
+use mathlib.Core.Path.{_≡_, sym, ap, _∙_, subst}
+use mathlib.Core.List.{List}
+use borrow.Author.Needs.{needs}
+use lib.Dec.{lit<}
+use lib.IntN.{ℤ}
+use Rattle.whole.proofs.Words.{read-back}
+use Rattle.rules.specs.Fraction.{integer, whole, _/ℚ_, nearest}
+use Rattle.rules.specs.Matrix.{acesNumber}
+use Rattle.matrix.specs.Row.{SmallRows, IsProducts}
+use Rattle.matrix.specs.Inverse.{lowRows, highRows}
+use Rattle.matrix.proofs.Sizes.{Read, read-products, low-small, high-small}
+use Rattle.matrix.proofs.Split.{pair-is}
+use Rattle.matrix.proofs.back_of.Statement.{statement}
+use Rattle.matrix.proofs.back_of.Tie as tie
+
+products-requires : tie.Need-products-requires
+products-requires c κs =
+    let s = c .before in
+    rw (read-back (s .fits .x), read-back (s .fits .y), read-back (s .fits .z)) (subst SmallRows (sym (c .low-of .ensures)) (low-small (s .args .s)), s .pre)
+
+products-requires-2 : tie.Need-products-requires-2
+products-requires-2 c κs =
+    let s = c .before .before .before in
+    rw (read-back (s .fits .x), read-back (s .fits .y), read-back (s .fits .z)) (subst SmallRows (sym (c .high-of .ensures)) (high-small (s .args .s)), s .pre)
+
+-- the products, as they are read
+module _ (c : tie.After-products2) where
+  abbrev s : tie.Start
+  s = c .before .before .before .before
+
+  low : let a = c .before .before .before .before .args in let r = c .before .before .products .result in Read (lowRows (a .s)) (a .x) (a .y) (a .z) (r .red) (r .green) (r .blue)
+  low =
+      read-products (lowRows (s .args .s)) (s .args .x) (s .args .y) (s .args .z) (low-small (s .args .s)) (s .pre .0) (s .pre .1 .0) (s .pre .1 .1)
+      (rw (read-back (s .fits .x), read-back (s .fits .y), read-back (s .fits .z), c .before .before .before .low-of .ensures) at (c .before .before .products .ensures))
+
+  high : let a = c .before .before .before .before .args in let r = c .products2 .result in Read (highRows (a .s)) (a .x) (a .y) (a .z) (r .red) (r .green) (r .blue)
+  high =
+      read-products (highRows (s .args .s)) (s .args .x) (s .args .y) (s .args .z) (high-small (s .args .s)) (s .pre .0) (s .pre .1 .0) (s .pre .1 .1)
+      (rw (read-back (s .fits .x), read-back (s .fits .y), read-back (s .fits .z), c .before .high-of .ensures) at (c .products2 .ensures))
+
+over-binary-requires : tie.Need-over-binary-requires
+over-binary-requires c κs = let k = c .before .before in rw (low k .red, high k .red) (low k .red-sum, high k .red-sum)
+
+over-binary-requires-2 : tie.Need-over-binary-requires-2
+over-binary-requires-2 c κs = let k = c .before .before .before .before .before in rw (low k .green, high k .green) (low k .green-sum, high k .green-sum)
+
+over-binary-requires-3 : tie.Need-over-binary-requires-3
+over-binary-requires-3 c κs = let k = c .before .before .before .before .before .before .before .before in rw (low k .blue, high k .blue) (low k .blue-sum, high k .blue-sum)
+
+abbrev over : ℤ → ℤ
+over w = nearest (integer w /ℚ whole 1099511627776)
+
+returns : tie.Need-returns
+unfolding acesNumber
+returns c =
+    let g = c .before .before .before in
+    let r = g .before .before .before in
+    let k = r .before .before .before in
+    let a = k .before .before .before .before .args in
+    record {
+      red-is = read-back (record { sfits = r .over-binary .ok }) ∙ (rw (low k .red, high k .red) at (r .over-binary .ensures)) ∙ ap over (pair-is (a .s) 0 (lit< tt) (a .x) (a .y) (a .z));
+      green-is = read-back (record { sfits = g .over-binary2 .ok }) ∙ (rw (low k .green, high k .green) at (g .over-binary2 .ensures)) ∙ ap over (pair-is (a .s) 1 (lit< tt) (a .x) (a .y) (a .z));
+      blue-is = read-back (record { sfits = c .over-binary3 .ok }) ∙ (rw (low k .blue, high k .blue) at (c .over-binary3 .ensures)) ∙ ap over (pair-is (a .s) 2 (lit< tt) (a .x) (a .y) (a .z));
+    }
+
+pub back-of-spec : {M : Type 1} → statement M
+back-of-spec =
+    tie.close
+    (tie.spec (λ c κs. search needs) products-requires (λ c κs. search needs) products-requires-2 over-binary-requires over-binary-requires-2 over-binary-requires-3 returns)
