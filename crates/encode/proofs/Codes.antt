@@ -22,7 +22,7 @@ use Rattle.table.specs.Table.{tableOf}
 use Rattle.curve.specs.Decoded.{decoderOf, raw, decoded}
 use Rattle.curve.proofs.Program.{top-small}
 use Rattle.curve.proofs.Fit.{fits}
-use Rattle.curve.proofs.Theorems.{raw-rises}
+use Rattle.curve.proofs.Theorems.{raw-rises, raw-apart}
 use Rattle.encode.specs.Encoded.{encoded}
 use Rattle.encode.specs.Search.{Rising}
 use Rattle.encode.proofs.HalfWays.{Within, within-nearest}
@@ -43,7 +43,7 @@ scene-passed x e = (omega (arith, leN-of (at x) (at (pos (2 ^ 40))) (record { le
 
 module _ (s : Setting) (v : Valid s) where
   pub rising : Rising (decoderOf (scaleOf s)) (tableOf s) (topOf (s .width))
-  rising = record { small = top-small s v; fits = fits s v; rises = raw-rises s v }
+  rising = record { small = top-small s v; fits = fits s v; rises = raw-rises s v; apart = raw-apart s v }
 
   pub code-is : (x : ℤ) (n : ℕ) → Within (raw s) (topOf (s .width)) x n → n ≡ encoded s x
   code-is x n i =

@@ -3,6 +3,7 @@
 use mathlib.Core.Path.{_≡_, subst}
 use Prim.Native.Nat.{ℕ, _+_, _-_, _*_, _/_, _%_, _^_, _≤_, _<_, min}
 use native.Mathlib.Omega.{arith}
+use Rattle.curve.specs.Gap.{gap}
 use Rattle.encode.specs.Search.{Found}
 
 -- y is above the number of the code low, unless that is 0, and at most the number of the code high, unless that is past top; below and above
@@ -79,3 +80,12 @@ module _ (low high reach step : ℕ) (p : 0 < reach) (e : step ≡ min (4 * reac
 
   pub next-down : (by : ℕ) → by ≡ min reach ((high - low) / 2) → Next low high (high - by) step
   next-down by f = record { inside = λ h. (omega (arith, p), omega (arith, p)); step-positive = omega (arith, p, e); step-small = omega (arith, e) }
+
+-- what is at most 13 from the number of a code has that code, where numbers are 28 apart or more
+pub near-found : (u : ℕ → ℕ) (top y n : ℕ) → ((i j : ℕ) → i < j → j ≤ top → u i + gap ≤ u j) → n ≤ top → u n ≤ y + 13 → y ≤ u n + 13 → Found u top y n
+near-found u top y n apart h l g =
+    record {
+      in-range = h;
+      above = λ m e. omega (arith, apart m n (omega arith) h);
+      below = λ k. omega (arith, apart n (n + 1) (omega arith) (omega arith));
+    }

@@ -1,6 +1,6 @@
 // The search for the code of a number y, which has the offset: from a guess outwards, then by halves.
 ghost use mathlib.Core.Path.{_≡_};
-ghost use Prim.Native.Nat.{_^_, _<_, min};
+ghost use Prim.Native.Nat.{_^_, _≤_, _<_, min};
 ghost use Rattle.curve.specs.Decoded.{rawBy};
 ghost use Rattle.encode.specs.Search.{Rising, Found};
 use curve::constants::Curve;
@@ -10,13 +10,25 @@ use rules::Setting;
 // ---- The guess. Nothing but speed rests on it: the search ends at the same code wherever it begins. (The remainders change no number
 // that occurs. They show that products fit words.)
 
+// a * b, where b is in units of 2^-16.
+fn part(a: u64, b: u64) -> u64
+    requires { ⌜ (a < 2 ^ 16) × (b ≤ 2 ^ 16) ⌝ }
+    ensures { λ r. ⌜ r ≤ a ⌝ }
+{
+    a * b / 65536
+}
+
 // 2^16 * (log2(1 + m / 2^16) - m / 2^16), by a polynomial.
 fn bend(m: u64) -> u64
     requires { ⌜ m < 2 ^ 16 ⌝ }
-    ensures { λ r. ⌜ r < 2 ^ 17 ⌝ }
+    ensures { λ r. ⌜ r < 2 ^ 16 ⌝ }
 {
-    let factor = 28752 - 15667 * m / 65536 + 5383 * (m * m / 65536) / 65536;
-    m * (65536 - m) / 65536 * factor / 65536
+    let m2 = part(m, m);
+    let m3 = part(m2, m);
+    let m4 = part(m2, m2);
+    let more = 29010 + part(12065, m2) + part(1684, m4);
+    let less = part(18125, m) + part(6370, m3);
+    part(part(m, 65536 - m), more - less)
 }
 
 // 2^16 * log2(z), by the place of the highest one bit and the 16 bits after it.
@@ -28,7 +40,7 @@ fn log2(z: u64) -> u64
     (63 - zeros) as u64 * 65536 + m + bend(m)
 }
 
-// The code of the signal slope * log2(z) + plus - minus, which is in units of 10^-11.
+// The code nearest to the signal slope * log2(z) + plus - minus, which is in units of 10^-11.
 fn at_log(z: u64, slope: u64, plus: u64, minus: u64, top: u64) -> u64
     requires { ⌜ (slope < 2 ^ 34) × (plus < 2 ^ 37) × (top < 2 ^ 16) ⌝ }
 {
@@ -36,7 +48,7 @@ fn at_log(z: u64, slope: u64, plus: u64, minus: u64, top: u64) -> u64
     if signal < minus {
         return 0;
     }
-    (signal - minus) * top / 100000000000
+    ((signal - minus) * top + 50000000000) / 100000000000
 }
 
 // Curve 3: t = c * log10(a * x + b) + d, where z is 2^40 * (a * x + b): a * 2^16 is 364089, that times the offset 381774987264, and
@@ -79,7 +91,7 @@ fn in_toe(d: Decoder, y: u64) -> u64
     if rise < toe {
         return 0;
     }
-    (rise - toe) / 33554432000000
+    (rise - toe + 16777216000000) / 33554432000000
 }
 
 // The code of y, but for some codes. (The numbers of the toe are below 2^21, and all are below 2^33.)
@@ -112,7 +124,7 @@ fn least(a: u64, b: u64) -> u64
 
 // The code whose number is nearest to y. Between the codes low and high, whose numbers are low_number and high_number, any code may be
 // tried next: here one a step from the end that moved last, where steps grow fourfold, or else the one half way.
-pub fn find(s: Setting, d: Decoder, t: &[u64; 128], top: u64, y: u64) -> u64
+fn search(d: Decoder, t: &[u64; 128], top: u64, y: u64, first: u64) -> u64
     requires { ⌜ Rising d (now t) top ⌝ }
     requires { ⌜ y < 2 ^ 62 ⌝ }
     ensures { λ r. ⌜ Found (rawBy d (now (t .entry))) top y r ⌝ }
@@ -122,7 +134,7 @@ pub fn find(s: Setting, d: Decoder, t: &[u64; 128], top: u64, y: u64) -> u64
     let mut low_number: u64 = 0;
     let mut high_number: u64 = 0;
     let mut step: u64 = 1;
-    let mut middle = least(guess(s, d, top, y) % 65536 + 1, top);
+    let mut middle = least(first % 65536 + 1, top);
     while low + 1 < high {
         let reach = step;
         step = least(4 * step, 65536);
@@ -147,4 +159,19 @@ pub fn find(s: Setting, d: Decoder, t: &[u64; 128], top: u64, y: u64) -> u64
         return high;
     }
     low
+}
+
+// The same, where the code guessed is tried first: numbers of codes are 28 apart or more, so what is at most 13 from the number of a code has
+// that code.
+pub fn find(s: Setting, d: Decoder, t: &[u64; 128], top: u64, y: u64) -> u64
+    requires { ⌜ Rising d (now t) top ⌝ }
+    requires { ⌜ y < 2 ^ 62 ⌝ }
+    ensures { λ r. ⌜ Found (rawBy d (now (t .entry))) top y r ⌝ }
+{
+    let first = least(guess(s, d, top, y), top);
+    let number = d.raw(t, first);
+    if number <= y + 13 && y <= number + 13 {
+        return first;
+    }
+    search(d, t, top, y, first)
 }

@@ -22,4 +22,5 @@ at-log-spec =
     (λ c. omega (arith, rise (c .before .pre .0) (c .log2 .ensures), c .before .pre .1))
     (λ c. search needs)
     (λ c. omega (arith, code (c .before .before .args .minus) (rise (c .before .before .pre .0) (c .before .log2 .ensures)) (c .before .before .pre .1) (c .before .before .pre .2)))
+    (λ c. omega (arith, code (c .before .before .args .minus) (rise (c .before .before .pre .0) (c .before .log2 .ensures)) (c .before .before .pre .1) (c .before .before .pre .2)))
     (λ c. search needs))

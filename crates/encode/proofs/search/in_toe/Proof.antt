@@ -14,4 +14,4 @@ mul-rise : tie.Need-mul-rise
 mul-rise c = omega (arith, rise (c .before .pre) (c .before .args .d .over))
 
 pub in-toe-spec : {M : Type 1} → statement M
-in-toe-spec = tie.close (tie.spec mul-rise (λ c. search needs) (λ c. search needs))
+in-toe-spec = tie.close (tie.spec mul-rise (λ c. search needs) (λ c. omega (arith, rise (c .before .before .pre) (c .before .before .args .d .over))) (λ c. search needs))
