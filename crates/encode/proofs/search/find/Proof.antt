@@ -4,6 +4,7 @@ use mathlib.Core.Path.{_≡_}
 use Prim.Native.Nat.{_≤_}
 use native.Mathlib.Omega.{arith}
 use borrow.Author.Needs.{needs}
+use borrow.Author.Tests.{leb-true}
 use denote.Ref.{now}
 use Rattle.curve.specs.Decoded.{rawBy}
 use Rattle.curve.proofs.Program.{raw-small}
@@ -24,7 +25,7 @@ returns c =
     let s = l .before .before in
     near-found (rawBy (s .args .d) (now (s .args .t))) (s .args .top) (s .args .y) (l .least .result) (s .pre .0 .apart) (in-range l)
     (rw (c .before .before .raw .ensures) at (c .before .if1 .taken))
-    (rw (c .before .before .raw .ensures) at (c .if2 .taken))
+    (rw (c .before .before .raw .ensures) at (leb-true _ _ (c .if2 .taken)))
 
 pub find-spec : {M : Type 1} → statement M
 find-spec = tie.close (tie.spec (λ c κs. search needs) (λ c κs. search needs) raw-requires (λ c. search needs) (λ c. search needs) returns (λ c κs. search needs) (λ c. search needs))
