@@ -1,7 +1,7 @@
 -- `find` meets its contract: the guess is right, or the search finds the code.
 -- Assumes nothing.
 use mathlib.Core.Path.{_≡_}
-use Prim.Native.Nat.{_≤_}
+use Prim.Native.Nat.{_+_, _≤_}
 use native.Mathlib.Omega.{arith}
 use borrow.Author.Needs.{needs}
 use borrow.Author.Tests.{leb-true}
@@ -25,7 +25,7 @@ returns c =
     let s = l .before .before in
     near-found (rawBy (s .args .d) (now (s .args .t))) (s .args .top) (s .args .y) (l .least .result) (s .pre .0 .apart) (in-range l)
     (rw (c .before .before .raw .ensures) at (c .before .if1 .taken))
-    (rw (c .before .before .raw .ensures) at (leb-true _ _ (c .if2 .taken)))
+    (rw (c .before .before .raw .ensures) at (leb-true (s .args .y) (c .before .before .raw .result + 13) (c .if2 .taken)))
 
 pub find-spec : {M : Type 1} → statement M
 find-spec = tie.close (tie.spec (λ c κs. search needs) (λ c κs. search needs) raw-requires (λ c. search needs) (λ c. search needs) returns (λ c κs. search needs) (λ c. search needs))
