@@ -1,0 +1,35 @@
+#!/usr/bin/env python3
+"""reel.py PROGRAM BYTES: generate a reel, and print the time and the peak memory of `ropeinstant verify`, `to-aces` and `to-camera` over it;
+it must come back the same."""
+import filecmp, os, random, sys, tempfile, time
+from pathlib import Path
+
+sys.path.insert(0, str(Path(__file__).resolve().parent.parent / "tests"))
+from peak import watched
+from reel import reel
+
+
+def measured(*words):
+    begun = time.time()
+    status, most = watched([str(word) for word in words])
+    assert status == 0, words
+    return time.time() - begun, most
+
+
+def main():
+    program, records = os.path.abspath(sys.argv[1]), int(sys.argv[2]) // 10
+    with tempfile.TemporaryDirectory() as folder:
+        pixels, aces, back = (Path(folder) / name for name in ("pixels", "aces", "back"))
+        with open(pixels, "wb") as file:
+            for data in reel(random.Random(1), records):
+                file.write(data)
+        print(f"a reel of {pixels.stat().st_size:,} bytes, {records:,} random pixels of all settings; {os.cpu_count()} threads", flush=True)
+        for words in ("verify", pixels), ("to-aces", pixels, aces), ("to-camera", aces, back):
+            seconds, most = measured(program, *words)
+            print(f"{words[0]}: {seconds:.1f} s, {records / seconds / 1e6:.1f} million records a second, peak memory {most / 1000:.1f} MB", flush=True)
+        assert filecmp.cmp(pixels, back, shallow=False)
+        print("the reel came back the same")
+
+
+if __name__ == "__main__":
+    main()
