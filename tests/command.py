@@ -226,6 +226,7 @@ def unreadable(folder):
     os.mkfifo(folder / "fifo")
     holds(call("to-aces", source, folder / "fifo"), FILES, "it is not a regular file")
     holds(call("to-aces", source, ""), FILES, "cannot write")
+    holds(call("to-aces", source, f"{folder}/new/"), FILES, "there is no such folder")
     holds(call("to-aces", source, "/proc/out"), FILES, "cannot write /proc/out")
     holds(call("to-aces", source, folder / ("x" * 250)), FILES, "File name too long")
     assert not litter(folder)

@@ -64,9 +64,11 @@ fn title(setting: &Setting) -> String {
 }
 
 fn percent(share: f64) -> String {
-    match share * 100.0 {
-        none if none == 0.0 => "0".to_string(),
-        few if few < 0.01 => format!("{:.4}%", few),
-        some => format!("{:.2}%", some),
+    if share == 0.0 {
+        "0".to_string()
+    } else if share < 0.0001 {
+        format!("{:.4}%", share * 100.0)
+    } else {
+        format!("{:.2}%", share * 100.0)
     }
 }

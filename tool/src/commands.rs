@@ -42,12 +42,15 @@ pub fn verify(from: &Path, split: &Split) -> Result<u64, Failure> {
     let input = Input::open(from)?;
     run(&split.plan(TO_ACES.from), input, "verify", || {
         let (mut aces, mut back) = (vec![0; split.chunk * TO_ACES.to], vec![0; split.chunk * TO_CAMERA.to]);
-        move |part: &[u8], first: u64| {
-            let aces = converted(&TO_ACES, part, first, &mut aces)?;
-            let back = converted(&TO_CAMERA, aces, first, &mut back)?;
-            same(part, back, first)
-        }
+        move |part: &[u8], first: u64| returned(&TO_ACES, &TO_CAMERA, part, first, (&mut aces, &mut back))
     })
+}
+
+/// That a part comes back the same from one conversion and another, with room for both outputs.
+fn returned(to: &Conversion, from: &Conversion, part: &[u8], first: u64, room: (&mut [u8], &mut [u8])) -> Result<(), Failure> {
+    let made = converted(to, part, first, room.0)?;
+    let back = converted(from, made, first, room.1)?;
+    same(part, back, first)
 }
 
 /// The output strip of a part, whose first record has this index in the whole.
@@ -79,13 +82,25 @@ fn same(part: &[u8], back: &[u8], first: u64) -> Result<(), Failure> {
 #[cfg(test)]
 mod tests {
     use super::*;
+    use crate::library::{aces_to_pixel, Answer};
+
+    const PIXEL: [u8; 10] = [3, 12, 0x20, 3, 100, 0, 0, 0, 0, 0];
+
+    /// A way back that gives the second record's last code one too high.
+    fn faulty(input: &[u8], output: &mut [u8]) -> Answer {
+        let answer = aces_to_pixel(input, output);
+        output[18] += 1;
+        answer
+    }
+
+    fn tried(from: &Conversion) -> Result<(), Failure> {
+        returned(&TO_ACES, from, &PIXEL.repeat(3), 5, (&mut [0; 84], &mut [0; 30]))
+    }
 
     #[test]
     fn a_difference_says_where() {
-        let (part, mut back) = (vec![1; 30], vec![1; 30]);
-        assert!(same(&part, &back, 5).is_ok());
-        back[19] = 2;
-        let words = same(&part, &back, 5).unwrap_err().to_string();
+        assert!(tried(&TO_CAMERA).is_ok());
+        let words = tried(&Conversion { convert: faulty, ..TO_CAMERA }).unwrap_err().to_string();
         assert_eq!(words, "differs: record 6 (byte 60) does not come back the same");
     }
 }

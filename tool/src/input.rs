@@ -14,6 +14,8 @@ pub struct Input {
     pub length: Option<u64>,
     /// The bytes read so far.
     pub read: u64,
+    /// Whether the end has been seen. What a terminal or a pipe gives after its end is another input.
+    ended: bool,
 }
 
 impl Input {
@@ -34,7 +36,7 @@ impl Input {
             return Err(io::Error::new(ErrorKind::Other, "it is a folder"));
         }
         let length = if about.is_file() { Some(about.len().saturating_sub(file.stream_position()?)) } else { None };
-        Ok(Input { name, file, about, length, read: 0 })
+        Ok(Input { name, file, about, length, read: 0, ended: false })
     }
 
     /// Whether a file is the one that is read.
@@ -45,9 +47,9 @@ impl Input {
     /// Reads until the buffer is full or the input ends: the count of bytes.
     pub fn fill(&mut self, buffer: &mut [u8]) -> Result<usize, Failure> {
         let mut filled = 0;
-        while filled < buffer.len() {
+        while filled < buffer.len() && !self.ended {
             match self.file.read(&mut buffer[filled..]) {
-                Ok(0) => break,
+                Ok(0) => self.ended = true,
                 Ok(more) => filled += more,
                 Err(error) if error.kind() == ErrorKind::Interrupted => (),
                 Err(error) => return Err(cannot_read(&self.name, &error)),
@@ -81,4 +83,25 @@ impl Input {
 
 fn cannot_read(name: &str, error: &io::Error) -> Failure {
     Failure::files(&format!("cannot read {}", name), error)
+}
+
+#[cfg(test)]
+mod tests {
+    use super::*;
+    use std::fs::{self, OpenOptions};
+    use std::io::Write;
+
+    #[test]
+    fn the_end_is_the_end() {
+        let path = std::env::temp_dir().join(format!("ropeinstant-end-{}", std::process::id()));
+        fs::write(&path, b"12345").unwrap();
+        let mut input = Input::open(&path).unwrap();
+        let mut buffer = [0; 4];
+        assert_eq!((input.length, input.fill(&mut buffer).unwrap(), buffer), (Some(5), 4, *b"1234"));
+        assert_eq!(input.fill(&mut buffer).unwrap(), 1);
+        OpenOptions::new().append(true).open(&path).unwrap().write_all(b"67").unwrap();
+        assert_eq!((input.fill(&mut buffer).unwrap(), input.read), (0, 5));
+        assert!(input.unchanged().is_ok());
+        fs::remove_file(&path).unwrap();
+    }
 }

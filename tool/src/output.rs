@@ -4,6 +4,7 @@ use crate::input::Input;
 use crate::partial;
 use std::fs::{self, File, Metadata, OpenOptions};
 use std::io::{self, ErrorKind};
+use std::os::unix::ffi::OsStrExt;
 use std::os::unix::fs::FileExt;
 use std::path::{Path, PathBuf};
 
@@ -86,8 +87,11 @@ fn existing(path: &Path, input: &Input) -> Result<Option<Metadata>, Failure> {
     Ok(Some(about))
 }
 
-/// An output that is not there may be made, unless it is a link to nothing.
+/// An output that is not there may be made, unless it is a link to nothing or said to be a folder.
 fn absent(path: &Path) -> Result<Option<Metadata>, Failure> {
+    if path.as_os_str().as_bytes().ends_with(b"/") {
+        return Err(Failure::Files(format!("cannot write {}: there is no such folder, and OUT is a file", path.display())));
+    }
     match fs::symlink_metadata(path) {
         Ok(_) => Err(Failure::Files(format!("cannot write {}: it is a link to a file that does not exist", path.display()))),
         Err(_) => Ok(None),
