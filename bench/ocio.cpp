@@ -60,9 +60,10 @@ extern "C" void *ocio_new(int curve, int back)
     return new OCIO::ConstCPUProcessorRcPtr(processor->getDefaultCPUProcessor());
 }
 
+// Over an image of lines of 1024 pixels; OpenColorIO takes a line at once, and sets memory aside for it.
 extern "C" void ocio_apply(const void *processor, float *rgb, long pixels)
 {
-    OCIO::PackedImageDesc image(rgb, pixels, 1, 3);
+    OCIO::PackedImageDesc image(rgb, 1024, pixels / 1024, 3);
     (*static_cast<const OCIO::ConstCPUProcessorRcPtr *>(processor))->apply(image);
 }
 

@@ -31,6 +31,8 @@ pub struct Contest {
     strip: Vec<u8>,
     aces: Vec<u8>,
     ocio: Option<Ocio>,
+    signals: Vec<f32>,
+    rgb: Vec<f32>,
     pub to_aces: Times,
     pub to_camera: Times,
 }
@@ -47,7 +49,9 @@ impl Contest {
         let strip = random_strip(&setting, pixels);
         let aces = converted(ropeinstant_pixel_to_aces, &strip, 28 * pixels);
         let ocio = Ocio::new(&setting);
-        Contest { setting, strip, aces, ocio, to_aces: [None; 4], to_camera: [None; 4] }
+        let signals = signals(&setting, &strip);
+        let rgb = signals.clone();
+        Contest { setting, strip, aces, ocio, signals, rgb, to_aces: [None; 4], to_camera: [None; 4] }
     }
 
     /// Times each contestant once, on the first pixels of the strip.
@@ -64,9 +68,10 @@ impl Contest {
         least(&mut back[1], pixels, || assert!(plain::to_camera(aces, &mut returned)));
         least(&mut back[3], pixels, || made.copy_from_slice(aces));
         if let Some(ocio) = &self.ocio {
-            let mut rgb = signals(&self.setting, strip);
-            least(&mut to[2], pixels, || ocio.to_aces(&mut rgb));
-            least(&mut back[2], pixels, || ocio.to_camera(&mut rgb));
+            let (signals, rgb) = (&self.signals[..3 * pixels], &mut self.rgb[..3 * pixels]);
+            rgb.copy_from_slice(signals);
+            least(&mut to[2], pixels, || ocio.to_aces(rgb));
+            least(&mut back[2], pixels, || ocio.to_camera(rgb));
         }
     }
 

@@ -56,7 +56,9 @@ fn print_shares(contests: &[Contest]) {
     println!(
         "Plain f64 reads and writes the same records with the same checks, but its way back gives the nearest codes and refuses nothing;"
     );
-    println!("OpenColorIO works in place on float32 signals, and turning codes to signals and back is not in its time.");
+    println!(
+        "OpenColorIO works in place on float32 signals in lines of 1024 pixels; turning codes to signals and back is not in its time."
+    );
 }
 
 fn title(setting: &Setting) -> String {

@@ -23,16 +23,22 @@ impl Ocio {
     }
 
     pub fn to_aces(&self, rgb: &mut [f32]) {
-        unsafe { linked::ocio_apply(self.to, rgb.as_mut_ptr(), rgb.len() as i64 / 3) }
+        apply(self.to, rgb)
     }
 
     pub fn to_camera(&self, rgb: &mut [f32]) {
-        unsafe { linked::ocio_apply(self.back, rgb.as_mut_ptr(), rgb.len() as i64 / 3) }
+        apply(self.back, rgb)
     }
 
     pub fn version() -> String {
         unsafe { std::ffi::CStr::from_ptr(linked::ocio_version()) }.to_string_lossy().into_owned()
     }
+}
+
+#[cfg(ocio)]
+fn apply(processor: *const u8, rgb: &mut [f32]) {
+    assert_eq!(rgb.len() % (3 * 1024), 0, "lines of 1024 pixels");
+    unsafe { linked::ocio_apply(processor, rgb.as_mut_ptr(), rgb.len() as i64 / 3) }
 }
 
 #[cfg(not(ocio))]
