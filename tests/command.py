@@ -196,7 +196,7 @@ def dripped(folder, pick):
 
 def bar(folder, pick):
     """a bar with rate and time left on a terminal; every other run of these tests shows that it is absent elsewhere"""
-    (folder / "in").write_bytes(b"".join(reel(pick, 600000)))
+    (folder / "in").write_bytes(b"".join(reel(pick, 200000)))
     master, slave = pty.openpty()
     run = subprocess.Popen([PROGRAM, "verify", folder / "in", "--threads", "1", "--chunk", "1"], stdout=subprocess.PIPE, stderr=slave)
     os.close(slave)
@@ -207,8 +207,8 @@ def bar(folder, pick):
         except OSError:  # the terminal's other end is closed
             break
     os.close(master)
-    assert run.communicate()[0] == b"600000 records come back the same\n" and run.returncode == DONE
-    assert re.search(rb"verify \[#*\.*\] +\d+% of 6.0 MB, \d+\.\d [kM]B/s, \d:\d\d left", shown), shown
+    assert run.communicate()[0] == b"200000 records come back the same\n" and run.returncode == DONE
+    assert re.search(rb"verify \[#*\.*\] +\d+% of 2.0 MB, \d+\.\d [kM]B/s, \d:\d\d left", shown), shown
     assert shown.endswith(b"\r\x1b[K"), shown
 
 
