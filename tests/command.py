@@ -386,6 +386,7 @@ def injected(folder):
     for fault in "read:3", "pwrite:3":  # interrupted: it goes on
         assert call("to-aces", source, out, "--chunk=1000", env=under(FAULT=f"{fault}:{errno.EINTR}")) == (DONE, "", "")
         assert len(out.read_bytes()) == 280000
+    assert call("to-aces", source, out, env=under(FAULT=f"fsync:2:{errno.EINVAL}")) == (DONE, "", "")  # a file system that flushes no folder
     holds(call("to-aces", source, out, env=under(FAULT=f"fsync:2:{errno.EIO}")), FILES, "its folder could not be flushed")
     assert not litter(folder)
 

@@ -6,6 +6,7 @@ use crate::library::Refusal;
 use crate::output::Output;
 use crate::pipeline::{run, Plan};
 use crate::progress::during;
+use crate::target::Target;
 use crate::words::refused_record;
 use std::path::Path;
 
@@ -25,7 +26,7 @@ impl Split {
 /// Converts a file into another.
 pub fn convert(conversion: &Conversion, name: &str, from: &Path, to: &Path, split: &Split) -> Result<(), Failure> {
     let input = Input::open(from)?;
-    let output = Output::create(to, &input)?;
+    let output = Output::create(Target::of(to, &input)?)?;
     run(&split.plan(conversion.from), input, name, || {
         let mut made = vec![0; split.chunk * conversion.to];
         let output = &output;

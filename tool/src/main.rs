@@ -13,6 +13,7 @@ mod output;
 mod partial;
 mod pipeline;
 mod progress;
+mod target;
 mod words;
 
 use args::{parse, Request};
