@@ -1,7 +1,7 @@
 #!/usr/bin/env python3
-"""reel.py PROGRAM BYTES: generate a reel, and print the time and the peak memory of `ropeinstant verify`, `to-aces` and `to-camera` over it;
-it must come back the same."""
-import filecmp, os, random, sys, tempfile, time
+"""reel.py PROGRAM BYTES: generate a reel, and print the time, the computing time of all threads and the peak memory of `ropeinstant verify`,
+`to-aces` and `to-camera` over it; it must come back the same."""
+import filecmp, os, random, resource, sys, tempfile, time
 from pathlib import Path
 
 sys.path.insert(0, str(Path(__file__).resolve().parent.parent / "tests"))
@@ -9,11 +9,17 @@ from peak import watched
 from reel import reel
 
 
+def computed():
+    """seconds that the commands run so far have computed"""
+    used = resource.getrusage(resource.RUSAGE_CHILDREN)
+    return used.ru_utime + used.ru_stime
+
+
 def measured(*words):
-    begun = time.time()
+    begun, before = time.time(), computed()
     status, most = watched([str(word) for word in words])
     assert status == 0, words
-    return time.time() - begun, most
+    return time.time() - begun, computed() - before, most
 
 
 def main():
@@ -25,8 +31,9 @@ def main():
                 file.write(data)
         print(f"a reel of {pixels.stat().st_size:,} bytes, {records:,} random pixels of all settings; {os.cpu_count()} threads", flush=True)
         for words in ("verify", pixels), ("to-aces", pixels, aces), ("to-camera", aces, back):
-            seconds, most = measured(program, *words)
-            print(f"{words[0]}: {seconds:.1f} s, {records / seconds / 1e6:.1f} million records a second, peak memory {most / 1000:.1f} MB", flush=True)
+            seconds, work, most = measured(program, *words)
+            rate = f"{seconds:.1f} s, {records / seconds / 1e6:.1f} million records a second"
+            print(f"{words[0]}: {rate}, {work / records * 1e9:.0f} ns of computing a record, peak memory {most / 1000:.1f} MB", flush=True)
         assert filecmp.cmp(pixels, back, shallow=False)
         print("the reel came back the same")
 
