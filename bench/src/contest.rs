@@ -1,0 +1,178 @@
+//! The contest of one setting: the contestants' times, and the shares of pixels that come back a code off.
+use crate::ocio::Ocio;
+use crate::plain;
+
+#[repr(C)]
+struct Timespec {
+    seconds: i64,
+    nanoseconds: i64,
+}
+
+const THREAD_CPU_TIME: i32 = 3; // CLOCK_THREAD_CPUTIME_ID
+
+extern "C" {
+    fn clock_gettime(clock: i32, time: *mut Timespec) -> i32;
+    fn ropeinstant_pixel_to_aces(input: *const u8, input_len: usize, output: *mut u8, output_len: usize, at: *mut u64) -> u32;
+    fn ropeinstant_aces_to_pixel(input: *const u8, input_len: usize, output: *mut u8, output_len: usize, at: *mut u64) -> u32;
+}
+
+pub struct Setting {
+    pub curve: u8,
+    pub width: u8,
+    pub ei: u16,
+}
+
+/// Nanoseconds a pixel, of Ropeinstant, plain f64, OpenColorIO and a copy.
+pub type Times = [Option<f64>; 4];
+
+/// A strip of random pixels of a setting, its ACES strip, and the least times seen.
+pub struct Contest {
+    pub setting: Setting,
+    strip: Vec<u8>,
+    aces: Vec<u8>,
+    ocio: Option<Ocio>,
+    signals: Vec<f32>,
+    rgb: Vec<f32>,
+    pub to_aces: Times,
+    pub to_camera: Times,
+}
+
+pub struct Shares {
+    /// Of pixels a code off: Ropeinstant; plain f64 from its records and through half; OpenColorIO from float32 and through half.
+    pub off: [Option<f64>; 5],
+    /// Of pixels whose ACES numbers by plain f64 are not the exact ones.
+    pub inexact: f64,
+}
+
+impl Contest {
+    pub fn new(setting: Setting, pixels: usize) -> Contest {
+        let strip = random_strip(&setting, pixels);
+        let aces = converted(ropeinstant_pixel_to_aces, &strip, 28 * pixels);
+        let ocio = Ocio::new(&setting);
+        let signals = signals(&setting, &strip);
+        let rgb = signals.clone();
+        Contest { setting, strip, aces, ocio, signals, rgb, to_aces: [None; 4], to_camera: [None; 4] }
+    }
+
+    /// Times each contestant once, on the first pixels of the strip.
+    pub fn round(&mut self, pixels: usize) {
+        let (strip, aces) = (&self.strip[..10 * pixels], &self.aces[..28 * pixels]);
+        let (mut made, mut returned) = (aces.to_vec(), strip.to_vec());
+        let (to, back) = (&mut self.to_aces, &mut self.to_camera);
+        least(&mut to[0], pixels, || convert(ropeinstant_pixel_to_aces, strip, &mut made));
+        assert!(made == aces);
+        least(&mut to[1], pixels, || assert!(plain::to_aces(strip, &mut made)));
+        least(&mut to[3], pixels, || made.copy_from_slice(aces));
+        least(&mut back[0], pixels, || convert(ropeinstant_aces_to_pixel, aces, &mut returned));
+        assert!(returned == strip);
+        least(&mut back[1], pixels, || assert!(plain::to_camera(aces, &mut returned)));
+        least(&mut back[3], pixels, || made.copy_from_slice(aces));
+        if let Some(ocio) = &self.ocio {
+            let (signals, rgb) = (&self.signals[..3 * pixels], &mut self.rgb[..3 * pixels]);
+            rgb.copy_from_slice(signals);
+            least(&mut to[2], pixels, || ocio.to_aces(rgb));
+            least(&mut back[2], pixels, || ocio.to_camera(rgb));
+        }
+    }
+
+    pub fn shares(&self) -> Shares {
+        let (strip, aces) = (&self.strip, &self.aces);
+        let mut off = [None; 5];
+        let (mut made, mut returned) = (vec![0; aces.len()], vec![0; strip.len()]);
+        convert(ropeinstant_aces_to_pixel, aces, &mut returned);
+        off[0] = Some(differing(strip, &returned, 10));
+        assert!(plain::to_aces(strip, &mut made) && plain::to_camera(&made, &mut returned));
+        off[1] = Some(differing(strip, &returned, 10));
+        assert!(plain::to_camera_of(&made, &mut returned, half));
+        off[2] = Some(differing(strip, &returned, 10));
+        if let Some(ocio) = &self.ocio {
+            let mut values = signals(&self.setting, strip);
+            ocio.to_aces(&mut values);
+            let halves = values.iter().map(|value| half(f64::from(*value)) as f32).collect();
+            off[3] = Some(codes_off(&self.setting, strip, ocio, values));
+            off[4] = Some(codes_off(&self.setting, strip, ocio, halves));
+        }
+        Shares { off, inexact: differing(aces, &made, 28) }
+    }
+}
+
+/// Pixel records with random codes.
+fn random_strip(setting: &Setting, pixels: usize) -> Vec<u8> {
+    let mut state = 88172645463325252_u64;
+    let mut strip = Vec::with_capacity(10 * pixels);
+    for _ in 0..pixels {
+        strip.extend([setting.curve, setting.width]);
+        strip.extend(setting.ei.to_le_bytes());
+        for _ in 0..3 {
+            state ^= state << 13;
+            state ^= state >> 7;
+            state ^= state << 17;
+            strip.extend((((state >> 20) & top(setting)) as u16).to_le_bytes());
+        }
+    }
+    strip
+}
+
+fn top(setting: &Setting) -> u64 {
+    (1 << setting.width) - 1
+}
+
+type Function = unsafe extern "C" fn(*const u8, usize, *mut u8, usize, *mut u64) -> u32;
+
+fn convert(function: Function, input: &[u8], output: &mut [u8]) {
+    let mut at = 0;
+    let number = unsafe { function(input.as_ptr(), input.len(), output.as_mut_ptr(), output.len(), &mut at) };
+    assert_eq!(number, 0, "refused at record {}", at);
+}
+
+fn converted(function: Function, input: &[u8], length: usize) -> Vec<u8> {
+    let mut output = vec![0; length];
+    convert(function, input, &mut output);
+    output
+}
+
+/// The signals of a strip's codes, as OpenColorIO takes them.
+fn signals(setting: &Setting, strip: &[u8]) -> Vec<f32> {
+    codes(strip).iter().map(|code| f32::from(*code) / top(setting) as f32).collect()
+}
+
+fn codes(strip: &[u8]) -> Vec<u16> {
+    strip.chunks_exact(10).flat_map(|pixel| [4, 6, 8].map(|at| u16::from_le_bytes([pixel[at], pixel[at + 1]]))).collect()
+}
+
+/// Times something, and keeps the least time of a pixel.
+fn least(kept: &mut Option<f64>, pixels: usize, mut work: impl FnMut()) {
+    let begun = now();
+    work();
+    let took = (now() - begun) / pixels as f64;
+    *kept = Some(kept.map_or(took, |before| before.min(took)));
+}
+
+/// The time that this thread has computed, in nanoseconds; another program's turns do not count.
+fn now() -> f64 {
+    let mut time = Timespec { seconds: 0, nanoseconds: 0 };
+    assert_eq!(unsafe { clock_gettime(THREAD_CPU_TIME, &mut time) }, 0);
+    time.seconds as f64 * 1e9 + time.nanoseconds as f64
+}
+
+/// The share of records that differ.
+fn differing(a: &[u8], b: &[u8], record: usize) -> f64 {
+    let count = a.chunks_exact(record).zip(b.chunks_exact(record)).filter(|(x, y)| x != y).count();
+    count as f64 / (a.len() / record) as f64
+}
+
+/// The share of pixels that OpenColorIO gives back a code off.
+fn codes_off(setting: &Setting, strip: &[u8], ocio: &Ocio, mut values: Vec<f32>) -> f64 {
+    ocio.to_camera(&mut values);
+    let returned: Vec<u16> = values.iter().map(|signal| (signal * top(setting) as f32).round() as u16).collect();
+    let count = codes(strip).chunks_exact(3).zip(returned.chunks_exact(3)).filter(|(x, y)| x != y).count();
+    count as f64 / (strip.len() / 10) as f64
+}
+
+/// The nearest half float (a tie to the even one), of a value below the largest.
+fn half(value: f64) -> f64 {
+    let exponent = ((value.to_bits() >> 52 & 0x7ff) as i32 - 1023 - 10).max(-24);
+    let step = 2_f64.powi(exponent);
+    let even = 1.5 * 2_f64.powi(52); // adding it rounds to a whole number
+    (value / step + even - even) * step
+}

@@ -1,0 +1,76 @@
+//! bench [PIXELS [REPETITIONS]]: Ropeinstant beside a plain f64 program, OpenColorIO and a copy of the bytes, on one thread, in one run.
+mod contest;
+mod ocio;
+mod plain;
+
+use contest::{Contest, Setting, Times};
+use ocio::Ocio;
+
+const COUNTED: usize = 1 << 20; // pixels of which those that come back a code off are counted
+const SETTINGS: [Setting; 4] = [
+    Setting { curve: 3, width: 12, ei: 800 },
+    Setting { curve: 3, width: 16, ei: 800 },
+    Setting { curve: 4, width: 12, ei: 0 },
+    Setting { curve: 4, width: 16, ei: 0 },
+];
+
+fn main() {
+    let mut arguments = std::env::args().skip(1).map(|word| word.parse().expect("bench [PIXELS [REPETITIONS]]"));
+    let pixels = arguments.next().unwrap_or(1 << 18).min(COUNTED);
+    let repetitions = arguments.next().unwrap_or(25);
+    let mut contests = SETTINGS.map(|setting| Contest::new(setting, COUNTED));
+    for _ in 0..repetitions {
+        contests.iter_mut().for_each(|contest| contest.round(pixels));
+    }
+    println!("Nanoseconds a pixel on one thread, and how many times Ropeinstant's time that is (below 1: faster than Ropeinstant).");
+    println!("{} random pixels a setting, the least of {} runs that alternate. OpenColorIO: {}.\n", pixels, repetitions, Ocio::version());
+    print_times("pixel to ACES", &contests, |contest| &contest.to_aces);
+    print_times("ACES to pixel", &contests, |contest| &contest.to_camera);
+    print_shares(&contests);
+}
+
+fn print_times(name: &str, contests: &[Contest], of: impl Fn(&Contest) -> &Times) {
+    println!("| {:<25} | Ropeinstant |    plain f64 |  OpenColorIO | copy of 28 bytes |", name);
+    println!("|---------------------------|------------:|-------------:|-------------:|-----------------:|");
+    for contest in contests {
+        let times = of(contest);
+        let own = times[0].unwrap();
+        let beside = [1, 2, 3].map(|k| times[k].map_or("-".to_string(), |time| format!("{:.1} ({:.2})", time, time / own)));
+        println!("| {:<25} | {:>11.1} | {:>12} | {:>12} | {:>16} |", title(&contest.setting), own, beside[0], beside[1], beside[2]);
+    }
+    println!();
+}
+
+fn print_shares(contests: &[Contest]) {
+    println!("Pixels that come back a code off, of {} a setting:\n", COUNTED);
+    println!("| setting                   | Ropeinstant | plain f64 | through half | OpenColorIO, float32 | through half |");
+    println!("|---------------------------|------------:|----------:|-------------:|---------------------:|-------------:|");
+    let mut inexact = Vec::new();
+    for contest in contests {
+        let shares = contest.shares();
+        let off = shares.off.map(|share| share.map_or("-".to_string(), percent));
+        println!("| {:<25} | {:>11} | {:>9} | {:>12} | {:>20} | {:>12} |", title(&contest.setting), off[0], off[1], off[2], off[3], off[4]);
+        inexact.push(percent(shares.inexact));
+    }
+    println!("\nPixels whose ACES numbers by plain f64 are not the exact ones, in the same order: {}.", inexact.join(", "));
+    println!(
+        "Plain f64 reads and writes the same records with the same checks, but its way back gives the nearest codes and refuses nothing;"
+    );
+    println!(
+        "OpenColorIO works in place on float32 signals in lines of 1024 pixels; turning codes to signals and back is not in its time."
+    );
+}
+
+fn title(setting: &Setting) -> String {
+    format!("curve {}, width {}, EI {}", setting.curve, setting.width, setting.ei)
+}
+
+fn percent(share: f64) -> String {
+    if share == 0.0 {
+        "0".to_string()
+    } else if share < 0.0001 {
+        format!("{:.4}%", share * 100.0)
+    } else {
+        format!("{:.2}%", share * 100.0)
+    }
+}

@@ -1,0 +1,149 @@
+//! The same conversions as a plain program would do them, with f64, powf and log: the same records in and out, the same checks of settings
+//! and codes. It is not exact, and its way back gives the nearest codes, where the exact one refuses what no pixel has.
+use std::convert::TryInto;
+
+const UNIT: f64 = 16777216.0; // units in 1
+
+struct Curve {
+    a: f64,
+    b: f64,
+    c: f64,
+    d: f64,
+    e: f64,
+    f: f64,
+    border: f64, // the signal above which the power part is
+    base: f64,
+    matrix: [[f64; 3]; 3],
+}
+
+/// A setting's constants.
+pub struct Plain {
+    setting: [u8; 4],
+    curve: Curve,
+    inverse: [[f64; 3]; 3],
+    top: f64,
+}
+
+fn log_c3(ei: u16) -> Curve {
+    assert_eq!(ei, 800, "the only EI of this benchmark");
+    let (cut, e, f) = (0.010591, 5.367655, 0.092809);
+    let matrix = [[0.680205, 0.236137, 0.083658], [0.085415, 1.017471, -0.102886], [0.002057, -0.062563, 1.060506]];
+    Curve { a: 5.555556, b: 0.052272, c: 0.247190, d: 0.385537, e, f, border: e * cut + f, base: 10.0, matrix }
+}
+
+/// LogC4 in the same form: c log2(a x + b) + d.
+fn log_c4() -> Curve {
+    let c = 928.0 / 1023.0 / 14.0;
+    let matrix = [
+        [0.750957362824734131, 0.144422786709757084, 0.104619850465508965],
+        [0.000821837079380207, 1.007397584885003194, -0.008219421964383583],
+        [-0.000499952143533471, -0.000854177231436971, 1.001354129374970370],
+    ];
+    Curve { a: 262128.0 / 117.45, b: 64.0, c, d: 95.0 / 1023.0 - 6.0 * c, e: 1.0, f: 0.0, border: -1.0, base: 2.0, matrix }
+}
+
+impl Plain {
+    /// None for a setting that is refused.
+    fn new(setting: [u8; 4]) -> Option<Plain> {
+        let ei = u16::from_le_bytes([setting[2], setting[3]]);
+        let curve = match (setting[0], setting[1], ei) {
+            (3, 10, 800) | (3, 12, 800) | (3, 16, 800) => log_c3(ei),
+            (4, 12, 0) | (4, 16, 0) => log_c4(),
+            _ => return None,
+        };
+        let inverse = inverse(&curve.matrix);
+        Some(Plain { setting, curve, inverse, top: f64::from((1_u32 << setting[1]) - 1) })
+    }
+
+    fn decode(&self, code: u16) -> f64 {
+        let (c, t) = (&self.curve, f64::from(code) / self.top);
+        let value = if t > c.border { (c.base.powf((t - c.d) / c.c) - c.b) / c.a } else { (t - c.f) / c.e };
+        (value * UNIT + 0.5).floor()
+    }
+
+    fn encode(&self, value: f64) -> u16 {
+        let c = &self.curve;
+        let t = if c.e * value + c.f > c.border { c.c * log(c.base, c.a * value + c.b) + c.d } else { c.e * value + c.f };
+        (t * self.top).round().max(0.0).min(self.top) as u16
+    }
+
+    fn aces(&self, scene: [f64; 3]) -> [i64; 3] {
+        product(&self.curve.matrix, scene).map(|x| (x + 0.5).floor() as i64)
+    }
+
+    /// The codes of ACES values.
+    pub fn codes(&self, aces: [f64; 3]) -> [u16; 3] {
+        product(&self.inverse, aces).map(|value| self.encode(value))
+    }
+}
+
+fn log(base: f64, x: f64) -> f64 {
+    let x = x.max(1e-300);
+    if base == 2.0 {
+        x.log2()
+    } else {
+        x.log10()
+    }
+}
+
+fn product(matrix: &[[f64; 3]; 3], x: [f64; 3]) -> [f64; 3] {
+    matrix.map(|row| row[0] * x[0] + row[1] * x[1] + row[2] * x[2])
+}
+
+fn inverse(m: &[[f64; 3]; 3]) -> [[f64; 3]; 3] {
+    let cofactor = |i: usize, j: usize| {
+        let at = |k: usize, l: usize| m[(i + k) % 3][(j + l) % 3];
+        at(1, 1) * at(2, 2) - at(1, 2) * at(2, 1)
+    };
+    let over = (0..3).map(|j| m[0][j] * cofactor(0, j)).sum::<f64>();
+    [0, 1, 2].map(|i| [0, 1, 2].map(|j| cofactor(j, i) / over))
+}
+
+/// The constants for a record's setting, kept while the setting is the same.
+fn constants<'a>(kept: &'a mut Option<Plain>, record: &[u8]) -> Option<&'a Plain> {
+    let setting: [u8; 4] = record[..4].try_into().unwrap();
+    if kept.as_ref().map_or(true, |plain| plain.setting != setting) {
+        *kept = Plain::new(setting);
+    }
+    kept.as_ref()
+}
+
+/// Pixel records to ACES records; false if refused.
+pub fn to_aces(input: &[u8], output: &mut [u8]) -> bool {
+    let mut kept = None;
+    for (pixel, aces) in input.chunks_exact(10).zip(output.chunks_exact_mut(28)) {
+        let plain = match constants(&mut kept, pixel) {
+            Some(plain) => plain,
+            None => return false,
+        };
+        let codes = [4, 6, 8].map(|at| u16::from_le_bytes([pixel[at], pixel[at + 1]]));
+        if codes.iter().any(|code| f64::from(*code) > plain.top) {
+            return false;
+        }
+        aces[..4].copy_from_slice(&pixel[..4]);
+        let numbers = plain.aces(codes.map(|code| plain.decode(code)));
+        numbers.iter().zip(aces[4..].chunks_exact_mut(8)).for_each(|(number, bytes)| bytes.copy_from_slice(&number.to_le_bytes()));
+    }
+    true
+}
+
+/// ACES records to pixel records; false if refused.
+pub fn to_camera(input: &[u8], output: &mut [u8]) -> bool {
+    to_camera_of(input, output, |value| value)
+}
+
+/// The same, of each ACES value after some change.
+pub fn to_camera_of(input: &[u8], output: &mut [u8], change: impl Fn(f64) -> f64) -> bool {
+    let mut kept = None;
+    for (aces, pixel) in input.chunks_exact(28).zip(output.chunks_exact_mut(10)) {
+        let plain = match constants(&mut kept, aces) {
+            Some(plain) => plain,
+            None => return false,
+        };
+        let value = |at: usize| change(i64::from_le_bytes(aces[at..at + 8].try_into().unwrap()) as f64 / UNIT);
+        pixel[..4].copy_from_slice(&aces[..4]);
+        let codes = plain.codes([value(4), value(12), value(20)]);
+        codes.iter().zip(pixel[4..].chunks_exact_mut(2)).for_each(|(code, bytes)| bytes.copy_from_slice(&code.to_le_bytes()));
+    }
+    true
+}

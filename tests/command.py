@@ -1,0 +1,429 @@
+#!/usr/bin/env python3
+"""command.py PROGRAM [SEED]: try the command `ropeinstant` as a new user would: help, wrong usage, conversions held to the rules of 01
+(rules.py), each refusal with its words, and each way in which reading and writing can fail, a full disk and a kill in mid-run among
+them. Whatever fails must leave the old output as it was, and no litter that a rerun does not clear."""
+import errno, hashlib, os, pty, random, re, resource, shutil, signal, subprocess, sys, tempfile, time
+from pathlib import Path
+
+from decoded import SETTINGS
+from peak import watched
+from reel import reel
+from rules import ACES_TO_PIXEL, LIMIT, NUMBERS, PIXEL, PIXEL_TO_ACES, PIXEL_TO_SCENE, READ, SCENE_TO_PIXEL, WRITTEN, convert, numbers
+from strips import jobs
+
+DONE, REFUSED, USAGE, FILES = range(4)  # exit statuses
+NAMES = {PIXEL_TO_ACES: "to-aces", ACES_TO_PIXEL: "to-camera", PIXEL_TO_SCENE: "to-scene", SCENE_TO_PIXEL: "from-scene"}
+CHOSEN = [s for s in SETTINGS if s[1] < 16]
+CHANNELS = "red", "green", "blue"
+OLD = b"the old output"
+GOOD = PIXEL.pack(3, 12, 800, 100, 0, 0)
+PROGRAM = os.path.abspath(sys.argv[1])
+
+
+def call(*words, data=None, **more):
+    """run the command: its status, and what it says on standard output and standard error"""
+    done = subprocess.run([PROGRAM, *map(str, words)], input=data, capture_output=True, **more)
+    return done.returncode, done.stdout.decode(), done.stderr.decode()
+
+
+def litter(folder):
+    return [p.name for p in Path(folder).iterdir() if ".ropeinstant-" in p.name]
+
+
+def holds(got, status, words=""):
+    """that a run ended with this status, and says these words where it did not succeed, and nothing else"""
+    assert got[0] == status and words in got[2] and (got[2] or status == DONE), (status, words, got)
+    assert "panicked" not in got[2] and (status == DONE or not got[1]), got
+
+
+def keeps(out, *words, status, saying, **more):
+    """that a run fails, leaves the old output, its mode and its inode, and no litter"""
+    out.write_bytes(OLD)
+    before = out.stat()
+    holds(call(*words, **more), status, saying)
+    after = out.stat()
+    assert out.read_bytes() == OLD and (before.st_ino, before.st_mode, before.st_mtime_ns) == (after.st_ino, after.st_mode, after.st_mtime_ns)
+    assert not litter(out.parent), (words, litter(out.parent))
+
+
+# ---- help and wrong usage
+
+def help_and_version():
+    status, said, wrong = call("--help")
+    assert status == DONE and not wrong and all(f"ropeinstant {name} IN" in said for name in (*NAMES.values(), "verify")), said
+    for name in (*NAMES.values(), "verify"):
+        for words in ((name, "--help"), (name, "-h"), ("help", name)):
+            status, said, wrong = call(*words)
+            assert status == DONE and not wrong and said.startswith(f"ropeinstant {name} IN") and "Exit status: 0 done" in said, said
+    status, said, wrong = call("--version")
+    assert status == DONE and not wrong and re.fullmatch(r"ropeinstant \d+\.\d+\.\d+\n", said), said
+    with open("/dev/full", "wb") as full:
+        assert subprocess.run([PROGRAM, "--help"], stdout=full, stderr=subprocess.DEVNULL).returncode == FILES
+
+
+def wrong_usage(folder):
+    source, out = folder / "in", folder / "out"
+    source.write_bytes(GOOD)
+    for words, saying in (
+        ((), "no subcommand"), (("to-acse", source, out), "'to-acse'"), (("to-aces",), "needs IN and OUT"), (("to-aces", source), "needs IN and OUT"),
+        (("to-aces", source, out, out), "has 3 names"), (("verify",), "needs IN"), (("verify", source, out), "needs IN"),
+        (("to-aces", source, out, "--fast"), "'--fast'"), (("to-aces", source, out, "--threads"), "--threads needs"),
+        (("to-aces", source, out, "--threads", "0"), "--threads needs"), (("to-aces", source, out, "--chunk", "many"), "--chunk needs"),
+        (("to-aces", source, "-"), "a pipe cannot promise"), (("to-aces", source, source), "the same file"),
+    ):
+        keeps(out, *words, status=USAGE, saying=saying)
+        assert source.read_bytes() == GOOD
+    link = folder / "link"
+    os.link(source, link)
+    keeps(out, "to-aces", source, link, status=USAGE, saying="the same file")
+    with open(source, "rb") as file:
+        keeps(out, "to-aces", "-", link, status=USAGE, saying="the same file", stdin=file)
+
+
+# ---- the rules
+
+def words_of(number, k, conversion, data):
+    """what the command says of a refusal"""
+    record = READ[conversion]
+    if number == 1:
+        return f"refused 1: the input has {len(data)} bytes, which is not a whole number of records of {record.size} bytes"
+    curve, width, ei, *channels = record.unpack_from(data, k * record.size)
+    where = f"refused {number}: record {k} (byte {k * record.size}): "
+    if number == 6:
+        name, code = next((name, code) for name, code in zip(CHANNELS, channels) if code >= 2 ** width)
+        return where + f"{name} code {code} is above {2 ** width - 1}\n"
+    if number == 7:
+        name, scene = next((name, scene) for name, scene in zip(CHANNELS, channels) if abs(scene) > LIMIT)
+        return where + f"{name} scene number {scene} is outside -1099511627776 to 1099511627776\n"
+    return where + {
+        3: f"curve {curve} is neither 3 nor 4\n",
+        4: f"width {width} is not one of curve {curve}'s, which are {'10, ' if curve == 3 else ''}12 and 16\n",
+        5: f"EI {ei} is not one of curve {curve}'s, which ",
+        10: f"no pixel of curve {curve}, width {width}, EI {ei} has the ACES numbers {', '.join(map(str, channels))}\n",
+    }[number]
+
+
+def held_to_rules(folder, pick, table, count):
+    """strips, whole and damaged, through files and pipes, with random threads and chunks: how many of each answer"""
+    seen = {}
+    source, out = folder / "in", folder / "out"
+    for conversion, data, _ in listed() + list(jobs(pick, table, tuple(NAMES), count)):
+        room = len(data) // READ[conversion].size * WRITTEN[conversion].size
+        answer, made = convert(table, conversion, data, bytes(room))
+        piped = pick.randrange(2)
+        source.write_bytes(data)
+        options = f"--threads={pick.randrange(1, 5)}", "--chunk", pick.choice((1, 2, 5, 30, 1000))
+        run = NAMES[conversion], "-" if piped else source, out, *options
+        how, number, *at = answer.replace("done", "done 0").split()
+        if how == "done":
+            assert call(*run, data=data if piped else None) == (DONE, "", ""), (run, data.hex())
+            assert out.read_bytes() == made and not litter(folder), (run, data.hex())
+        else:
+            keeps(out, *run, status=REFUSED, saying=words_of(int(number), int(at[0]), conversion, data), data=data if piped else None)
+        cause = "done" if how == "done" else f"refused {number}"
+        seen[cause] = seen.get(cause, 0) + 1
+    assert all(cause in seen for cause in ("done", *(f"refused {n}" for n in (1, 3, 4, 5, 6, 7, 10)))), seen
+    return dict(sorted(seen.items()))
+
+
+def listed():
+    """an input for each cause, with the refused value after records that pass; an empty one; a cause after a length that is refused first"""
+    scene = NUMBERS.pack(3, 12, 800, 0, 0, 0)
+    aces = NUMBERS.pack(3, 12, 800, -238167, -283566, -289928)
+    of_pixels = [PIXEL.pack(*record) for record in (
+        (2, 12, 800, 0, 0, 0), (4, 10, 0, 0, 0, 0), (3, 14, 800, 0, 0, 0), (3, 12, 2000, 0, 0, 0), (4, 12, 800, 0, 0, 0),
+        (3, 10, 800, 1023, 1024, 2000), (3, 12, 800, 0, 0, 4096), (4, 12, 0, 65535, 0, 0),
+    )]
+    tried = [(c, GOOD * 7 + bad + GOOD, b"") for c in (PIXEL_TO_ACES, PIXEL_TO_SCENE) for bad in of_pixels]
+    tried += [(SCENE_TO_PIXEL, scene * 3 + NUMBERS.pack(3, 12, 800, 0, x, 0), b"") for x in (LIMIT, LIMIT + 1, -LIMIT - 1, 2 ** 63 - 1)]
+    tried += [(ACES_TO_PIXEL, aces * 3 + NUMBERS.pack(3, 12, 800, -290085, -290085, -290084), b"")]
+    tried += [(c, b"", b"") for c in NAMES] + [(c, bytes(29), b"") for c in NAMES]
+    return tried + [(PIXEL_TO_ACES, of_pixels[0] + GOOD * 40 + b"tail", b"")]
+
+
+def any_split(folder, pick):
+    """the same bytes, and the same first refusal, for any chunk and threads: how many splits"""
+    source, out = folder / "in", folder / "out"
+    whole = b"".join(reel(pick, 60000))
+    damaged = bytearray(whole)
+    for k in (31234, 31300, 59999):
+        damaged[10 * k] = 9
+    splits = [(chunk, threads) for chunk in (1, 7, 1000, 16384, 1000000) for threads in (1, 2, 7)]
+    sums = set()
+    for chunk, threads in splits:
+        run = "to-aces", source, out, "--chunk", chunk, "--threads", threads
+        source.write_bytes(whole)
+        assert call(*run) == (DONE, "", "")
+        sums.add(hashlib.sha256(out.read_bytes()).digest())
+        source.write_bytes(damaged)
+        keeps(out, *run, status=REFUSED, saying="refused 3: record 31234 (byte 312340): curve 9 is neither 3 nor 4\n")
+    assert len(sums) == 1
+    source.write_bytes(whole)
+    assert call("to-aces", source, out) == (DONE, "", "") and {hashlib.sha256(out.read_bytes()).digest()} == sums
+    assert call("to-camera", out, folder / "back") == (DONE, "", "") and (folder / "back").read_bytes() == whole
+    return len(splits)
+
+
+def verified(folder, pick):
+    source = folder / "in"
+    for data in b"", GOOD, b"".join(reel(pick, 100000)):
+        source.write_bytes(data)
+        assert call("verify", source) == (DONE, f"{len(data) // 10} records come back the same\n", "")
+        assert call("verify", "-", data=data) == (DONE, f"{len(data) // 10} records come back the same\n", "")
+    source.write_bytes(GOOD * 5 + b"\3\14")
+    holds(call("verify", source), REFUSED, "refused 1: the input has 52 bytes")
+    source.write_bytes(GOOD * 5 + PIXEL.pack(3, 10, 800, 0, 0, 1024))
+    holds(call("verify", source), REFUSED, "refused 6: record 5 (byte 50): blue code 1024 is above 1023\n")
+    assert sorted(p.name for p in folder.iterdir()) == ["in"]
+
+
+# ---- standard input and the terminal
+
+def dripped(folder, pick):
+    """a pipe that gives its bytes in odd pieces"""
+    data, out = b"".join(reel(pick, 3000)), folder / "out"
+    run = subprocess.Popen([PROGRAM, "to-aces", "-", out, "--chunk", "50"], stdin=subprocess.PIPE)
+    for begin in range(0, len(data), 777):
+        run.stdin.write(data[begin:begin + 777])
+        run.stdin.flush()
+    run.stdin.close()
+    assert run.wait() == DONE
+    (folder / "in").write_bytes(data)
+    with open(folder / "in", "rb") as file:
+        assert call("to-aces", "-", folder / "other", stdin=file) == (DONE, "", "")
+    assert out.read_bytes() == (folder / "other").read_bytes() and len(out.read_bytes()) == 3000 * 28
+
+
+def bar(folder, pick):
+    """a bar with rate and time left on a terminal; every other run of these tests shows that it is absent elsewhere"""
+    (folder / "in").write_bytes(b"".join(reel(pick, 200000)))
+    master, slave = pty.openpty()
+    run = subprocess.Popen([PROGRAM, "verify", folder / "in", "--threads", "1", "--chunk", "1"], stdout=subprocess.PIPE, stderr=slave)
+    os.close(slave)
+    shown = b""
+    while True:
+        try:
+            shown += os.read(master, 4096)
+        except OSError:  # the terminal's other end is closed
+            break
+    os.close(master)
+    assert run.communicate()[0] == b"200000 records come back the same\n" and run.returncode == DONE
+    assert re.search(rb"verify \[#*\.*\] +\d+% of 2.0 MB, \d+\.\d [kM]B/s, \d:\d\d left", shown), shown
+    assert shown.endswith(b"\r\x1b[K"), shown
+
+
+# ---- reading and writing that fails
+
+def unreadable(folder):
+    source, out = folder / "in", folder / "out"
+    keeps(out, "to-aces", folder / "none", out, status=FILES, saying="none: No such file")
+    keeps(out, "to-aces", folder, out, status=FILES, saying="it is a folder")
+    keeps(out, "to-aces", "/proc/self/mem", out, status=FILES, saying="cannot read /proc/self/mem: Input/output error")
+    source.write_bytes(GOOD)
+    holds(call("to-aces", source, folder / "none" / "out"), FILES, "its folder: No such file")
+    holds(call("to-aces", source, folder), FILES, "it is a folder")
+    holds(call("to-aces", source, "/dev/full"), FILES, "it is not a regular file")
+    os.mkfifo(folder / "fifo")
+    holds(call("to-aces", source, folder / "fifo"), FILES, "it is not a regular file")
+    holds(call("to-aces", source, ""), FILES, "cannot write")
+    holds(call("to-aces", source, f"{folder}/new/"), FILES, "there is no such folder")
+    holds(call("to-aces", source, "/proc/out"), FILES, "cannot write /proc/out")
+    holds(call("to-aces", source, folder / ("x" * 250)), FILES, "File name too long")
+    assert not litter(folder)
+
+
+def forbidden(folder):
+    """what a user may not read or write, tried as a user without privileges"""
+    program, source, secret, out = (folder / name for name in ("program", "in", "secret", "out"))
+    shutil.copy(PROGRAM, program)
+    folder.chmod(0o777)
+    for path, data, mode in ((source, GOOD, 0o444), (secret, GOOD, 0o000), (out, OLD, 0o444)):
+        path.write_bytes(data)
+        path.chmod(mode)
+    closed = folder / "closed"
+    closed.mkdir(mode=0o555)
+    who = {"user": 65534, "group": 65534, "extra_groups": []} if os.geteuid() == 0 else {}
+    for words, saying in (
+        ((secret, folder / "new"), "secret: Permission denied"), ((source, out), "out: Permission denied"),
+        ((source, closed / "new"), "a new file beside it: Permission denied"),
+    ):
+        run = subprocess.run([program, "to-aces", *words], capture_output=True, **who)
+        assert run.returncode == FILES and saying in run.stderr.decode(), run
+    assert out.read_bytes() == OLD and not litter(folder) and not (folder / "new").exists() and not list(closed.iterdir())
+    closed.chmod(0o755)
+
+
+def links_and_modes(folder):
+    """an output that is a link stays one, and its file is replaced; a link to nothing is refused; the old file's mode is kept"""
+    source, real, link = folder / "in", folder / "real", folder / "link"
+    source.write_bytes(GOOD)
+    real.write_bytes(OLD)
+    real.chmod(0o640)
+    link.symlink_to("real")
+    assert call("to-aces", source, link) == (DONE, "", "")
+    assert link.is_symlink() and len(real.read_bytes()) == 28 and real.stat().st_mode & 0o777 == 0o640
+    real.unlink()
+    holds(call("to-aces", source, link), FILES, "a link to a file that does not exist")
+    assert not real.exists() and not litter(folder)
+    assert call("to-aces", "in", "-out", cwd=folder)[0] == USAGE
+    assert call("to-aces", "--", "in", "-out", cwd=folder) == (DONE, "", "") and len((folder / "-out").read_bytes()) == 28
+
+
+def limited(size, ignored):
+    """for a process about to begin: files of at most this size; the signal for more is ignored, so that writing fails, or kills"""
+    def limit():
+        signal.signal(signal.SIGXFSZ, signal.SIG_IGN if ignored else signal.SIG_DFL)
+        resource.setrlimit(resource.RLIMIT_FSIZE, (size, size))
+    return limit
+
+
+def full_disk(folder, pick):
+    """a limit on the size of files, and a small file system where one can be mounted: whether it could"""
+    source, out, small = folder / "in", folder / "out", folder / "small"
+    source.write_bytes(b"".join(reel(pick, 100000)))
+    keeps(out, "to-aces", source, out, status=FILES, saying="File too large", preexec_fn=limited(1 << 20, True))
+    status, _, _ = call("to-aces", source, out, preexec_fn=limited(1 << 20, False))
+    assert status == -signal.SIGXFSZ and out.read_bytes() == OLD and len(litter(folder)) == 1
+    assert call("to-aces", source, out) == (DONE, "", "") and not litter(folder)
+    small.mkdir()
+    if subprocess.run(["mount", "-t", "tmpfs", "-o", "size=1m", "tmpfs", small], capture_output=True).returncode:
+        return False
+    try:
+        keeps(small / "out", "to-aces", source, small / "out", status=FILES, saying="No space left on device")
+        source.write_bytes(GOOD)
+        assert call("to-aces", source, small / "out") == (DONE, "", "") and len((small / "out").read_bytes()) == 28
+    finally:
+        subprocess.run(["umount", small], check=True)
+    return True
+
+
+def until(what, seconds=20):
+    end = time.time() + seconds
+    while not what():
+        assert time.time() < end
+        time.sleep(0.001)
+
+
+def begun(folder):
+    """whether a run has written something that is not yet the output"""
+    return any(size(folder / name) for name in litter(folder))
+
+
+def size(path):
+    """of a file that may have gone"""
+    try:
+        return path.stat().st_size
+    except FileNotFoundError:
+        return 0
+
+
+def killed(folder, pick):
+    """a kill in mid-run, of a file's conversion and of a pipe's: the old output stays, and a rerun succeeds and clears the litter"""
+    source, out = folder / "in", folder / "out"
+    with open(source, "wb") as file:
+        for run in reel(pick, 3000000):
+            file.write(run)
+    out.write_bytes(OLD)
+    for words, stdin in ((source, None), ("-", subprocess.PIPE)):
+        run = subprocess.Popen([PROGRAM, "to-aces", words, out, "--threads", "1", "--chunk", "1"], stdin=stdin)
+        if stdin:
+            run.stdin.write(GOOD * 100000)
+            run.stdin.flush()
+        until(lambda: begun(folder))
+        run.kill()
+        assert run.wait() == -signal.SIGKILL, "it ended before the kill"
+        if stdin:
+            run.stdin.close()
+        assert out.read_bytes() == OLD and len(litter(folder)) == 1
+        (folder / "little").write_bytes(GOOD)
+        assert call("to-aces", folder / "little", out) == (DONE, "", "")
+        assert len(out.read_bytes()) == 28 and not litter(folder)
+        out.write_bytes(OLD)
+
+
+def at_once(folder):
+    """two runs to one output: the file of the one that still runs is left alone, and each ends well"""
+    out = folder / "out"
+    run = subprocess.Popen([PROGRAM, "to-aces", "-", out, "--chunk", "10"], stdin=subprocess.PIPE)
+    run.stdin.write(GOOD * 1000)
+    run.stdin.flush()
+    until(lambda: begun(folder))
+    assert call("to-aces", "-", out, data=GOOD) == (DONE, "", "") and len(out.read_bytes()) == 28 and len(litter(folder)) == 1
+    run.stdin.close()
+    assert run.wait() == DONE and len(out.read_bytes()) == 28000 and not litter(folder)
+
+
+def changed(folder):
+    """an input that grows while it is read is no input that was converted"""
+    source, out = folder / "in", folder / "out"
+    source.write_bytes(GOOD * 600000)
+    out.write_bytes(OLD)
+    run = subprocess.Popen([PROGRAM, "to-aces", source, out, "--chunk=1", "--threads=1"], stderr=subprocess.PIPE)
+    until(lambda: begun(folder))
+    with open(source, "ab") as file:
+        file.write(GOOD)
+    said = run.communicate()[1].decode()
+    assert run.returncode == FILES and "has changed while it was read" in said, (run.returncode, said)
+    assert out.read_bytes() == OLD and not litter(folder)
+
+
+def injected(folder):
+    """calls that fail (faults.c), and the order of those that keep the output: the file is flushed, renamed, and the folder flushed"""
+    shim, notes, source, out = folder / "faults.so", folder / "notes", folder / "in", folder / "out"
+    subprocess.run(["gcc", "-O1", "-Wall", "-Werror", "-shared", "-fPIC", Path(__file__).parent / "faults.c", "-o", shim, "-ldl"], check=True)
+    source.write_bytes(GOOD * 10000)
+
+    def under(**more):
+        return dict(os.environ, LD_PRELOAD=str(shim), **more)
+
+    assert call("to-aces", source, out, env=under(NOTES=str(notes))) == (DONE, "", "")
+    assert notes.read_text() == "fsync file\nrename\nfsync folder\n", notes.read_text()
+    for fault, error, saying in (
+        ("read:1", errno.EIO, "cannot read"), ("read:5", errno.EIO, "Input/output error"), ("pwrite:1", errno.ENOSPC, "No space left on device"),
+        ("pwrite:7", errno.EDQUOT, "Disk quota exceeded"), ("fsync:1", errno.EIO, "Input/output error"), ("rename:1", errno.EACCES, "Permission denied"),
+    ):
+        keeps(out, "to-aces", source, out, "--chunk=1000", status=FILES, saying=saying, env=under(FAULT=f"{fault}:{error}"))
+    for fault in "read:3", "pwrite:3":  # interrupted: it goes on
+        assert call("to-aces", source, out, "--chunk=1000", env=under(FAULT=f"{fault}:{errno.EINTR}")) == (DONE, "", "")
+        assert len(out.read_bytes()) == 280000
+    assert call("to-aces", source, out, env=under(FAULT=f"fsync:2:{errno.EINVAL}")) == (DONE, "", "")  # a file system that flushes no folder
+    holds(call("to-aces", source, out, env=under(FAULT=f"fsync:2:{errno.EIO}")), FILES, "its folder could not be flushed")
+    assert not litter(folder)
+
+
+def bounded(folder, pick):
+    """the peak memory of a run over a file of 30 MB with two threads, in MB"""
+    with open(folder / "in", "wb") as file:
+        for run in reel(pick, 3000000):
+            file.write(run)
+    status, most = watched([PROGRAM, "to-aces", folder / "in", folder / "out", "--threads", "2"])
+    assert status == DONE and 1000 < most < 10000, most
+    return most / 1000
+
+
+def main():
+    begin = time.time()
+    pick = random.Random(int(sys.argv[2]) if len(sys.argv) > 2 else 1)
+    table = {s: numbers(s) for s in CHOSEN}
+
+    def apart(test, *more):
+        with tempfile.TemporaryDirectory() as folder:
+            return test(Path(folder), *more)
+
+    help_and_version()
+    apart(wrong_usage)
+    print("command: help and version, and wrong usage, which touches no file")
+    print(f"command: converted or refused as the rules say, in words, by files and pipes: {apart(held_to_rules, pick, table, 400)}")
+    print(f"command: the same bytes, and the same first refusal, in {apart(any_split, pick)} splits of chunk and threads")
+    for test in verified, dripped, bar, full_disk, killed:
+        answer = apart(test, pick)
+        if test is full_disk:
+            print(f"command: a full disk: by a limit on files{', and a small file system' if answer else ' (no file system could be mounted)'}")
+    for test in unreadable, forbidden, links_and_modes, at_once, changed, injected:
+        apart(test)
+    print("command: whatever fails, a kill among them, leaves the old output and no litter that a rerun does not clear")
+    print(f"command: a peak of {apart(bounded, pick):.1f} MB for a file of 30 MB; {time.time() - begin:.0f} s in all")
+
+
+if __name__ == "__main__":
+    main()

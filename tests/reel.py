@@ -1,0 +1,40 @@
+#!/usr/bin/env python3
+"""reel.py BYTES FILE [SEED]: write a reel of BYTES // 10 random pixel records, all accepted, in runs of one setting; every setting occurs in
+a reel of 35 runs or more."""
+import random, sys
+
+from decoded import SETTINGS
+
+RUN = 20000  # records
+
+
+def run(pick, setting, count):
+    """records of one setting, with random codes"""
+    curve, width, ei = setting
+    high = bytes(b & (1 << width - 8) - 1 for b in range(256))  # what a random byte becomes as a code's high byte
+    data = bytearray(10 * count)
+    for place, byte in enumerate((curve, width, *ei.to_bytes(2, "little"))):
+        data[place::10] = bytes((byte,)) * count
+    for place in range(4, 10, 2):
+        data[place::10] = pick.randbytes(count)
+        data[place + 1::10] = pick.randbytes(count).translate(high)
+    return data
+
+
+def reel(pick, records):
+    """the runs of a reel"""
+    settings = list(SETTINGS)
+    pick.shuffle(settings)
+    for k, begin in enumerate(range(0, records, RUN)):
+        yield run(pick, settings[k % len(settings)], min(RUN, records - begin))
+
+
+def main():
+    pick = random.Random(int(sys.argv[3]) if len(sys.argv) > 3 else 1)
+    with open(sys.argv[2], "wb") as file:
+        for data in reel(pick, int(sys.argv[1]) // 10):
+            file.write(data)
+
+
+if __name__ == "__main__":
+    main()

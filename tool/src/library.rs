@@ -1,0 +1,86 @@
+//! The proved library, libropeinstant.a (include/ropeinstant.h), with safe functions over it. This is the only unsafe code of the command.
+
+/// What the library answers: the count of records, or why and where it refuses.
+pub type Answer = Result<u64, Refusal>;
+
+#[derive(Debug, PartialEq)]
+pub struct Refusal {
+    pub number: u32,
+    pub record: u64,
+}
+
+type Function = unsafe extern "C" fn(*const u8, usize, *mut u8, usize, *mut u64) -> u32;
+
+extern "C" {
+    fn ropeinstant_pixel_to_scene(input: *const u8, input_len: usize, output: *mut u8, output_len: usize, at: *mut u64) -> u32;
+    fn ropeinstant_scene_to_pixel(input: *const u8, input_len: usize, output: *mut u8, output_len: usize, at: *mut u64) -> u32;
+    fn ropeinstant_pixel_to_aces(input: *const u8, input_len: usize, output: *mut u8, output_len: usize, at: *mut u64) -> u32;
+    fn ropeinstant_aces_to_pixel(input: *const u8, input_len: usize, output: *mut u8, output_len: usize, at: *mut u64) -> u32;
+}
+
+pub fn pixel_to_scene(input: &[u8], output: &mut [u8]) -> Answer {
+    call(ropeinstant_pixel_to_scene, input, output)
+}
+
+pub fn scene_to_pixel(input: &[u8], output: &mut [u8]) -> Answer {
+    call(ropeinstant_scene_to_pixel, input, output)
+}
+
+pub fn pixel_to_aces(input: &[u8], output: &mut [u8]) -> Answer {
+    call(ropeinstant_pixel_to_aces, input, output)
+}
+
+pub fn aces_to_pixel(input: &[u8], output: &mut [u8]) -> Answer {
+    call(ropeinstant_aces_to_pixel, input, output)
+}
+
+fn call(function: Function, input: &[u8], output: &mut [u8]) -> Answer {
+    let mut at = 0;
+    // What the header asks of its caller holds of slices: a slice's pointer is not null and has as many bytes as its length says,
+    // and a shared and two exclusive borrows do not overlap, nor does anything else write them during the call.
+    let number = unsafe { function(input.as_ptr(), input.len(), output.as_mut_ptr(), output.len(), &mut at) };
+    if number == 0 {
+        Ok(at)
+    } else {
+        Err(Refusal { number, record: at })
+    }
+}
+
+#[cfg(test)]
+mod tests {
+    use super::*;
+
+    // Curve 3, width 12, EI 800, and the pixel 100, 0, 0 with its ACES numbers, as the rules list them.
+    const PIXEL: [u8; 10] = [3, 12, 0x20, 3, 100, 0, 0, 0, 0, 0];
+    const ACES: [i64; 3] = [-238167, -283566, -289928];
+
+    #[test]
+    fn the_listed_pixel_and_back() {
+        let mut aces = [0; 28];
+        assert_eq!(pixel_to_aces(&PIXEL, &mut aces), Ok(1));
+        let mut listed = PIXEL[..4].to_vec();
+        ACES.iter().for_each(|number| listed.extend(number.to_le_bytes()));
+        assert_eq!(aces, listed[..]);
+        let mut pixel = [0; 10];
+        assert_eq!(aces_to_pixel(&aces, &mut pixel), Ok(1));
+        assert_eq!(pixel, PIXEL);
+    }
+
+    #[test]
+    fn scene_and_back() {
+        let (mut scene, mut pixel) = ([0; 28], [0; 10]);
+        assert_eq!(pixel_to_scene(&PIXEL, &mut scene), Ok(1));
+        assert_eq!(scene[4..12], (-213758_i64).to_le_bytes());
+        assert_eq!(scene_to_pixel(&scene, &mut pixel), Ok(1));
+        assert_eq!(pixel, PIXEL);
+    }
+
+    #[test]
+    fn empty_and_refused() {
+        assert_eq!(pixel_to_aces(&[], &mut []), Ok(0));
+        let mut kept = [7; 56];
+        let two = [PIXEL, [4, 10, 0, 0, 0, 0, 0, 0, 0, 0]].concat();
+        assert_eq!(pixel_to_aces(&two, &mut kept), Err(Refusal { number: 4, record: 1 }));
+        assert_eq!(kept, [7; 56]);
+    }
+}

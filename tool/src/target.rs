@@ -1,0 +1,76 @@
+//! What the name OUT stands for: a regular file that may be replaced, or a new one in a folder that is there; and not the input.
+use crate::failure::Failure;
+use crate::input::Input;
+use std::ffi::OsString;
+use std::fs::{self, Metadata, OpenOptions, Permissions};
+use std::io::{self, ErrorKind};
+use std::os::unix::ffi::OsStrExt;
+use std::path::{Path, PathBuf};
+
+pub struct Target {
+    /// As the user named it.
+    pub said: String,
+    /// Its folder and its name there, with no links.
+    pub folder: PathBuf,
+    pub name: OsString,
+    /// Those of the file that is replaced.
+    pub permissions: Option<Permissions>,
+}
+
+impl Target {
+    pub fn of(path: &Path, input: &Input) -> Result<Target, Failure> {
+        let old = existing(path, input)?;
+        let real = if old.is_some() { fs::canonicalize(path) } else { Ok(path.to_path_buf()) };
+        let real = real.map_err(|error| Failure::files(&doing(path), &error))?;
+        let name = real.file_name().ok_or_else(|| cannot(path, "it is not the name of a file"))?.to_owned();
+        let folder = real_folder(&real).map_err(|error| Failure::files(&format!("{}: its folder", doing(path)), &error))?;
+        Ok(Target { said: path.display().to_string(), folder, name, permissions: old.map(|about| about.permissions()) })
+    }
+}
+
+/// The output as it is now, if it is there.
+fn existing(path: &Path, input: &Input) -> Result<Option<Metadata>, Failure> {
+    let about = match fs::metadata(path) {
+        Ok(about) => about,
+        Err(error) if error.kind() == ErrorKind::NotFound => return absent(path),
+        Err(error) => return Err(Failure::files(&doing(path), &error)),
+    };
+    if about.is_dir() {
+        return Err(cannot(path, "it is a folder"));
+    }
+    if !about.is_file() {
+        return Err(cannot(path, "it is not a regular file, and could not appear whole or not at all"));
+    }
+    if input.is(&about) {
+        return Err(Failure::Usage("IN and OUT are the same file".to_string()));
+    }
+    OpenOptions::new().write(true).open(path).map_err(|error| Failure::files(&doing(path), &error))?;
+    Ok(Some(about))
+}
+
+/// An output that is not there may be made, unless it is a link to nothing or said to be a folder.
+fn absent(path: &Path) -> Result<Option<Metadata>, Failure> {
+    if path.as_os_str().as_bytes().ends_with(b"/") {
+        return Err(cannot(path, "there is no such folder, and OUT is a file"));
+    }
+    match fs::symlink_metadata(path) {
+        Ok(_) => Err(cannot(path, "it is a link to a file that does not exist")),
+        Err(_) => Ok(None),
+    }
+}
+
+/// The folder of a path, with no links in it.
+fn real_folder(path: &Path) -> io::Result<PathBuf> {
+    match path.parent() {
+        Some(folder) if folder != Path::new("") => fs::canonicalize(folder),
+        _ => fs::canonicalize("."),
+    }
+}
+
+fn doing(path: &Path) -> String {
+    format!("cannot write {}", path.display())
+}
+
+fn cannot(path: &Path, why: &str) -> Failure {
+    Failure::Files(format!("{}: {}", doing(path), why))
+}
