@@ -23,17 +23,34 @@
 extern "C" {
 #endif
 
-/* Why a strip is refused. */
+/* Why a strip is refused; ropeinstant_words says it. */
 enum ropeinstant_refusal {
-    ROPEINSTANT_PARTIAL_RECORD = 1,     /* the input is not a whole number of records */
-    ROPEINSTANT_SHORT_OUTPUT = 2,       /* the output is shorter than the records need */
-    ROPEINSTANT_UNKNOWN_CURVE = 3,      /* the curve is neither 3 nor 4 */
-    ROPEINSTANT_UNKNOWN_WIDTH = 4,      /* the width is not one of the curve's */
-    ROPEINSTANT_UNKNOWN_EI = 5,         /* the EI is not one of the curve's */
-    ROPEINSTANT_CODE_ABOVE_TOP = 6,     /* a code is above the top code of its width */
-    ROPEINSTANT_SCENE_OUT_OF_RANGE = 7, /* a scene number to encode is outside -2^40 to 2^40 */
-    ROPEINSTANT_NO_PIXEL = 10,          /* the way back: no pixel of the setting has this ACES triple */
+    ROPEINSTANT_PARTIAL_RECORD = 1,
+    ROPEINSTANT_SHORT_OUTPUT = 2,
+    ROPEINSTANT_UNKNOWN_CURVE = 3,
+    ROPEINSTANT_UNKNOWN_WIDTH = 4,
+    ROPEINSTANT_UNKNOWN_EI = 5,
+    ROPEINSTANT_CODE_ABOVE_TOP = 6,
+    ROPEINSTANT_SCENE_OUT_OF_RANGE = 7,
+    ROPEINSTANT_NO_PIXEL = 10,
 };
+
+/* A refusal's number in words; "converted" for 0, and "no such refusal" for a number that no function returns. */
+static inline const char *ropeinstant_words(uint32_t number)
+{
+    switch (number) {
+    case 0: return "converted";
+    case ROPEINSTANT_PARTIAL_RECORD: return "the input is not a whole number of records";
+    case ROPEINSTANT_SHORT_OUTPUT: return "the output is shorter than the records need";
+    case ROPEINSTANT_UNKNOWN_CURVE: return "the curve is neither 3 nor 4";
+    case ROPEINSTANT_UNKNOWN_WIDTH: return "the width is not one of the curve's";
+    case ROPEINSTANT_UNKNOWN_EI: return "the EI is not one of the curve's";
+    case ROPEINSTANT_CODE_ABOVE_TOP: return "a code is above the top code of its width";
+    case ROPEINSTANT_SCENE_OUT_OF_RANGE: return "a scene number to encode is outside -2^40 to 2^40";
+    case ROPEINSTANT_NO_PIXEL: return "no pixel of the setting has this ACES triple";
+    default: return "no such refusal";
+    }
+}
 
 /* Decoding: pixel records (10 bytes) to scene records (28 bytes). Refuses by 1 to 6. */
 uint32_t ropeinstant_pixel_to_scene(const uint8_t *in, size_t in_len, uint8_t *out, size_t out_len, uint64_t *at);

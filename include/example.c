@@ -1,0 +1,38 @@
+/* An example: one pixel to ACES and back, and a refusal.
+ *
+ *   gcc -Iinclude include/example.c target/staticlib/libropeinstant.a -o target/example && target/example */
+#include <inttypes.h>
+#include <stdio.h>
+#include <string.h>
+
+#include "ropeinstant.h"
+
+static void say(const char *what, uint32_t number, uint64_t at)
+{
+    if (number == 0)
+        printf("%s: %" PRIu64 " record(s)\n", what, at);
+    else
+        printf("%s: refused %" PRIu32 " at record %" PRIu64 ": %s\n", what, number, at, ropeinstant_words(number));
+}
+
+int main(void)
+{
+    /* Curve 3, width 12, EI 800 (0x0320), codes 100, 0, 0. */
+    const uint8_t pixel[10] = {3, 12, 0x20, 0x03, 100, 0, 0, 0, 0, 0};
+    uint8_t aces[28], back[10];
+    uint64_t at;
+
+    say("to ACES", ropeinstant_pixel_to_aces(pixel, sizeof pixel, aces, sizeof aces, &at), at);
+    for (int i = 0; i < 3; i++) {
+        int64_t number;
+        memcpy(&number, aces + 4 + 8 * i, sizeof number);
+        printf("  %" PRId64 "\n", number);
+    }
+
+    say("back", ropeinstant_aces_to_pixel(aces, sizeof aces, back, sizeof back, &at), at);
+    printf("  %s\n", memcmp(pixel, back, sizeof pixel) == 0 ? "the same codes" : "other codes");
+
+    aces[4] += 1; /* one unit more: no pixel has these numbers */
+    say("back, one unit off", ropeinstant_aces_to_pixel(aces, sizeof aces, back, sizeof back, &at), at);
+    return 0;
+}
