@@ -21,18 +21,21 @@ int main(void)
     const uint8_t pixel[10] = {3, 12, 0x20, 0x03, 100, 0, 0, 0, 0, 0};
     uint8_t aces[28], back[10];
     uint64_t at;
+    uint32_t number = ropeinstant_pixel_to_aces(pixel, sizeof pixel, aces, sizeof aces, &at);
 
-    say("to ACES", ropeinstant_pixel_to_aces(pixel, sizeof pixel, aces, sizeof aces, &at), at);
+    say("to ACES", number, at);
     for (int i = 0; i < 3; i++) {
-        int64_t number;
-        memcpy(&number, aces + 4 + 8 * i, sizeof number);
-        printf("  %" PRId64 "\n", number);
+        int64_t units;
+        memcpy(&units, aces + 4 + 8 * i, sizeof units);
+        printf("  %" PRId64 "\n", units);
     }
 
-    say("back", ropeinstant_aces_to_pixel(aces, sizeof aces, back, sizeof back, &at), at);
+    number = ropeinstant_aces_to_pixel(aces, sizeof aces, back, sizeof back, &at);
+    say("back", number, at);
     printf("  %s\n", memcmp(pixel, back, sizeof pixel) == 0 ? "the same codes" : "other codes");
 
     aces[4] += 1; /* one unit more: no pixel has these numbers */
-    say("back, one unit off", ropeinstant_aces_to_pixel(aces, sizeof aces, back, sizeof back, &at), at);
+    number = ropeinstant_aces_to_pixel(aces, sizeof aces, back, sizeof back, &at);
+    say("back, one unit off", number, at);
     return 0;
 }
