@@ -1,9 +1,9 @@
 // A float to the nearest unit, read from its sign, exponent and fraction bits.
 ghost use mathlib.Core.Path.{_≡_};
-ghost use Prim.Native.Nat.{_^_, _<_};
+ghost use Prim.Native.Nat.{_^_, _≤_, _<_};
 ghost use lib.Dec.{eqb};
 ghost use lib.Ieee.{binary64, ofFields};
-ghost use Rattle.float.specs.Reading.{readAnswer};
+ghost use Rattle.float.specs.Reading.{unitCount, readAnswer};
 use rules::Refusal;
 use rules::Scene;
 
@@ -13,7 +13,19 @@ pub enum Reading {
     Refused(Refusal),
 }
 
-// The nearest unit of a float by its three parts, a half going up.
+// The units of a float without its sign, to the nearest. Without it the float is digits / 2^places units. A half goes up: away from 0 above it,
+// towards 0 below it.
+fn size(sign: u64, exponent: u64, fraction: u64) -> u64
+    requires { ⌜ (sign < 2) × (997 ≤ exponent) × (exponent ≤ 1039) × (fraction < 2 ^ 52) ⌝ }
+    ensures { λ n. ⌜ n ≡ unitCount sign exponent fraction ⌝ }
+{
+    let digits: u64 = fraction + 0x10_0000_0000_0000;
+    let places: u64 = 1051 - exponent;
+    let half: u64 = 1 << (places - 1);
+    (digits + half - sign) >> places
+}
+
+// A float by its three parts. 65,536 has the exponent 1039 and the fraction 0; below the exponent 997 a float is less than half a unit.
 fn join(sign: u64, exponent: u64, fraction: u64) -> Reading
     requires { ⌜ (sign < 2) × (exponent < 2048) × (fraction < 2 ^ 52) ⌝ }
     ensures { λ r. ⌜ r ≡ readAnswer (ofFields binary64 (eqb sign 1) exponent fraction) ⌝ }
@@ -21,7 +33,6 @@ fn join(sign: u64, exponent: u64, fraction: u64) -> Reading
     if exponent == 2047 {
         return Reading::Refused(Refusal::FloatNotFinite);
     }
-    // 2^16 has the exponent 1039 and the fraction 0.
     if exponent > 1039 {
         return Reading::Refused(Refusal::FloatOutOfRange);
     }
@@ -30,20 +41,14 @@ fn join(sign: u64, exponent: u64, fraction: u64) -> Reading
             return Reading::Refused(Refusal::FloatOutOfRange);
         }
     }
-    // Below 2^-26.
     if exponent < 997 {
         return Reading::Scene(Scene(0));
     }
-    // The float is digits / 2^places units.
-    let digits: u64 = fraction + 0x10_0000_0000_0000;
-    let places: u64 = 1051 - exponent;
-    let half: u64 = 1 << (places - 1);
-    // A half goes up: away from 0 where the float is positive, towards it where it is negative.
-    let size: u64 = (digits + half - sign) >> places;
+    let units = size(sign, exponent, fraction) as i64;
     if sign == 0 {
-        Reading::Scene(Scene(size as i64))
+        Reading::Scene(Scene(units))
     } else {
-        Reading::Scene(Scene(0 - (size as i64)))
+        Reading::Scene(Scene(0 - units))
     }
 }
 
