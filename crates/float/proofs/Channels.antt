@@ -4,9 +4,8 @@ use mathlib.Core.Path.{_≡_, refl, sym, ap, _∙_, subst}
 use Prim.Native.Nat.{ℕ, suc, _+_, _-_, _*_, _^_, _≤_, _<_}
 use native.Mathlib.Nat.{lt-of-mul-lt-mul-right}
 use native.Mathlib.Omega.{arith}
-use borrow.Author.Tests.{leb-true}
 use mathlib.Core.Bool.{Bool, true, false}
-use lib.Dec.{T, leb}
+use lib.Dec.{T, leb→le}
 use lib.IntN.{ℤ, pos, negsuc, natAbs, subℕ}
 use lib.Ieee.{Float, nan, inf, fin, up, down}
 use lib.Ieee.Fits.{down-pos}
@@ -23,36 +22,23 @@ use Rattle.rules.specs.Fraction.{Fraction, nearest}
 use Rattle.rules.specs.Refusal.{then}
 use Rattle.rules.specs.Setting.{topOf, refuseUnless, codeCheck, Valid}
 use Rattle.rules.specs.Encoding.{sceneCheck}
-use Rattle.rules.specs.Float.{finite, valueOf, inRange, floatCheck, unitsOf, IsFloat, floatOf}
+use Rattle.rules.specs.Float.{signed, valueOf, inRange, floatCheck, unitsOf, IsFloat, floatOf}
 use Rattle.rules.specs.WayBack.{IsPixel}
 use Rattle.rules.proofs.Between.{scene-passes}
-use Rattle.rules.proofs.Settings.{passed-only, code-passed}
+use Rattle.rules.proofs.Settings.{refused-never, both, passed-only, code-passed}
 use Rattle.curve.specs.Decoded.{offset, raw, decoded}
 use Rattle.curve.proofs.Limit.{raw-limited}
 use Rattle.float.specs.declared.units.Reading.{Reading}
 use Rattle.float.specs.Reading.{unitsAfter, readAnswer}
-use Rattle.float.specs.Answer.{codesCheck}
+use Rattle.float.specs.Answer.{codesCheck, floatPixel, floatsAfter, Exact}
 use Rattle.float.proofs.Scaled.{float-exact}
 use Rattle.float.proofs.Fractions.{unitsAt, range-is}
-
--- ---- two checks that pass
-IsRefused : Check → Type 0
-IsRefused Passed = ⊥
-IsRefused (Refused r) = Unit {0}
-
-pub never : {A : Type 0} {r : Refusal} → Refused r ≡ Passed → A
-unfolding IsRefused
-never e = absurd (subst IsRefused e tt)
-
-pub both-pass : (a b : Check) → then a b ≡ Passed → (a ≡ Passed) × (b ≡ Passed)
-both-pass Passed b e = (refl, e)
-both-pass (Refused r) b e = never e
 
 -- ---- codes
 pub is-pixel : (s : Setting) (p : Pixel) → codesCheck s p ≡ Passed → IsPixel s p
 is-pixel s p e =
-    let r = both-pass (codeCheck s (p .red .0)) (then (codeCheck s (p .green .0)) (codeCheck s (p .blue .0))) e in
-    let g = both-pass (codeCheck s (p .green .0)) (codeCheck s (p .blue .0)) (r .1) in
+    let r = both (codeCheck s (p .red .0)) (then (codeCheck s (p .green .0)) (codeCheck s (p .blue .0))) e in
+    let g = both (codeCheck s (p .green .0)) (codeCheck s (p .blue .0)) (r .1) in
     record { red = r .0; green = g .0; blue = g .1 }
 
 pub decoded-small : (s : Setting) → Valid s → (n : ℕ) → codeCheck s n ≡ Passed → natAbs (decoded s n) ≤ 2 ^ 40
@@ -63,6 +49,16 @@ decoded-small s v n e = small (raw s n) (raw-limited s v n (code-passed s n e))
 
 pub decoded-exact : (s : Setting) → Valid s → (n : ℕ) → codeCheck s n ≡ Passed → IsFloat (decoded s n) (floatOf (decoded s n))
 decoded-exact s v n e = float-exact (decoded s n) (decoded-small s v n e)
+
+-- what is decoded is exact
+pub answer-exact : (s : Setting) → Valid s → (p : Pixel) → Exact s p (floatsAfter (codesCheck s p) (floatPixel s p))
+answer-exact s v p = go (codesCheck s p) refl
+  where
+    go : (c : Check) → codesCheck s p ≡ c → Exact s p (floatsAfter c (floatPixel s p))
+    go Passed e =
+        let i = is-pixel s p e in
+        Exact.floats (decoded-exact s v (p .red .0) (i .red)) (decoded-exact s v (p .green .0) (i .green)) (decoded-exact s v (p .blue .0) (i .blue))
+    go (Refused r) e = Exact.refused
 
 -- ---- floats: what a reading says of the check and of the units
 abbrev checkOf : Reading → Check
@@ -105,6 +101,6 @@ units-small true n d p h = nearest-small (0 * 2 ^ 24 + n * 0) (0 * 0 + n * 2 ^ 2
 
 pub units-pass : (x : Float) → floatCheck x ≡ Passed → sceneCheck (unitsOf x) ≡ Passed
 unfolding floatCheck unitsOf valueOf
-units-pass nan e = never e
-units-pass (inf s) e = never e
-units-pass (fin s m d) e = scene-passes (unitsAt s (m * up d) (down d)) (units-small s (m * up d) (down d) (down-pos d) (leb-true (m * up d) (65536 * down d) ?))
+units-pass nan e = refused-never e
+units-pass (inf s) e = refused-never e
+units-pass (fin s m d) e = scene-passes (unitsAt s (m * up d) (down d)) (units-small s (m * up d) (down d) (down-pos d) (leb→le (m * up d) (65536 * down d) (subst T (range-is s (m * up d) (down d)) (passed-only (inRange (signed s (m * up d) (down d))) FloatOutOfRange e))))

@@ -1,59 +1,24 @@
+-- `check_codes` meets its contract: the first code that is refused decides.
+-- Assumes nothing.
+use mathlib.Core.Path.{sym, _∙_}
 use borrow.Author.Needs.{needs}
 use Rattle.float.proofs.check_codes.Statement.{statement}
 use Rattle.float.proofs.check_codes.Tie as tie
-use Rattle.float.proofs.check_codes.Reads as reads
-use Rattle.float.proofs.check_codes.Lts as lts
-use Rattle.setting.proofs.check_code.Reads as check-code-reads
 
--- src/lib.rt:56:9
-check-code-requires : tie.Need-check-code-requires
-check-code-requires c κs = search needs
-
-enum-told : tie.Need-enum-told
-enum-told c = search needs
-
--- src/lib.rt:58:9
-enum-told-2 : tie.Need-enum-told-2
-enum-told-2 c = search needs
-
--- src/lib.rt:58:9
 returns : tie.Need-returns
-returns c = ?
+returns c = rw (sym (c .before .before .check-code .ensures) ∙ c .enum-told2 .given .1) (c .enum-told2 .given .1)
 
--- src/lib.rt:60:9
-check-code-requires-2 : tie.Need-check-code-requires-2
-check-code-requires-2 c κs = search needs
-
-enum-told-3 : tie.Need-enum-told-3
-enum-told-3 c = search needs
-
--- src/lib.rt:62:9
-enum-told-4 : tie.Need-enum-told-4
-enum-told-4 c = search needs
-
--- src/lib.rt:62:9
 returns-2 : tie.Need-returns-2
-returns-2 c = ?
+returns-2 c =
+    let k = c .before .before .before in
+    rw (sym (k .before .before .check-code .ensures) ∙ k .enum-told .given .1, sym (c .before .before .check-code2 .ensures) ∙ c .enum-told4 .given .1) (c .enum-told4 .given .1)
 
--- src/lib.rt:64:5
-check-code-requires-3 : tie.Need-check-code-requires-3
-check-code-requires-3 c κs = search needs
-
--- src/lib.rt:52:1
 returns-3 : tie.Need-returns-3
-returns-3 c = ?
+returns-3 c =
+    let k = c .before .before .before .before in
+    rw (sym (k .before .before .check-code .ensures) ∙ k .enum-told .given .1, sym (c .before .before .before .check-code2 .ensures) ∙ c .before .enum-told3 .given .1) (c .check-code3 .ensures)
 
 pub check-codes-spec : {M : Type 1} → statement M
 check-codes-spec =
     tie.close
-    (tie.spec
-    check-code-requires
-    enum-told
-    enum-told-2
-    returns
-    check-code-requires-2
-    enum-told-3
-    enum-told-4
-    returns-2
-    check-code-requires-3
-    returns-3)
+    (tie.spec (λ c κs. search needs) (λ c. search needs) (λ c. search needs) returns (λ c κs. search needs) (λ c. search needs) (λ c. search needs) returns-2 (λ c κs. search needs) returns-3)

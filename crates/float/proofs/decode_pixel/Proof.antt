@@ -1,42 +1,27 @@
+-- `decode_pixel` meets its contract: the setting's checks first; the floats of a pixel of a valid setting are exact.
+-- Assumes nothing.
+use mathlib.Core.Path.{_≡_, sym, _∙_, subst}
 use borrow.Author.Needs.{needs}
+use Rattle.float.specs.declared.FloatDecoding.{FloatDecoding}
+use Rattle.float.specs.Answer.{decodePixelAnswer, Exact}
+use Rattle.float.proofs.Channels.{answer-exact}
 use Rattle.float.proofs.decode_pixel.Statement.{statement}
 use Rattle.float.proofs.decode_pixel.Tie as tie
-use Rattle.float.proofs.decode_pixel.Reads as reads
-use Rattle.float.proofs.decode_pixel.Lts as lts
-use Rattle.float.proofs.decode_valid.Reads as decode-valid-reads
-use Rattle.setting.proofs.check_setting.Reads as check-setting-reads
 
--- src/lib.rt:98:11
-check-setting-requires : tie.Need-check-setting-requires
-check-setting-requires c κs = search needs
-
--- src/lib.rt:99:24
-enum-known-r : tie.Need-enum-known-r
-enum-known-r c = search needs
-
--- src/lib.rt:100:26
-enum-told : tie.Need-enum-told
-enum-told c = search needs
-
--- src/lib.rt:100:26
 decode-valid-requires : tie.Need-decode-valid-requires
-decode-valid-requires c κs = ?
+decode-valid-requires c κs = sym (c .before .before .check-setting .ensures) ∙ c .enum-told .given .1
 
--- src/lib.rt:94:1
 returns : tie.Need-returns
-returns c = ?
+unfolding decodePixelAnswer
+returns c = (rw (sym (c .before .before .before .check-setting .ensures) ∙ c .before .r .given .1), Exact.refused)
 
--- src/lib.rt:94:1
 returns-2 : tie.Need-returns-2
-returns-2 c = ?
+unfolding decodePixelAnswer
+returns-2 c =
+    let v = sym (c .before .before .before .check-setting .ensures) ∙ c .before .enum-told .given .1 in
+    let a = c .before .before .before .before .args in
+    (rw v (c .decode-valid .ensures), subst (Exact (a .s) (a .p)) (sym (c .decode-valid .ensures)) (answer-exact (a .s) v (a .p)))
 
 pub decode-pixel-spec : {M : Type 1} → statement M
 decode-pixel-spec =
-    tie.close
-    (tie.spec
-    check-setting-requires
-    enum-known-r
-    enum-told
-    decode-valid-requires
-    returns
-    returns-2)
+    tie.close (tie.spec (λ c κs. search needs) (λ c. search needs) (λ c. search needs) decode-valid-requires returns returns-2)
