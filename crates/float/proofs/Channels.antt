@@ -14,15 +14,14 @@ use Rattle.whole.proofs.Floor.{half-bounds}
 use Rattle.rules.specs.declared.Check.{Check}
 use Rattle.rules.specs.declared.Check.the-variants.{Passed, Refused}
 use Rattle.rules.specs.declared.Pixel.{Pixel}
-use Rattle.rules.specs.declared.Refusal.{Refusal}
-use Rattle.rules.specs.declared.Refusal.the-variants.{FloatNotFinite, FloatOutOfRange}
+use Rattle.rules.specs.declared.Refusal.the-variants.{FloatOutOfRange}
 use Rattle.rules.specs.declared.Scene.{Scene}
 use Rattle.rules.specs.declared.Setting.{Setting}
-use Rattle.rules.specs.Fraction.{Fraction, nearest}
+use Rattle.rules.specs.Fraction.{nearest}
 use Rattle.rules.specs.Refusal.{then}
-use Rattle.rules.specs.Setting.{topOf, refuseUnless, codeCheck, Valid}
+use Rattle.rules.specs.Setting.{codeCheck, Valid}
 use Rattle.rules.specs.Encoding.{sceneCheck}
-use Rattle.rules.specs.Float.{signed, valueOf, inRange, floatCheck, unitsOf, IsFloat, floatOf}
+use Rattle.rules.specs.Float.{signed, valueOf, inRange, floatCheck, unitsOf}
 use Rattle.rules.specs.WayBack.{IsPixel}
 use Rattle.rules.proofs.Between.{scene-passes}
 use Rattle.rules.proofs.Settings.{refused-never, both, passed-only, code-passed}
@@ -30,8 +29,7 @@ use Rattle.curve.specs.Decoded.{offset, raw, decoded}
 use Rattle.curve.proofs.Limit.{raw-limited}
 use Rattle.float.specs.declared.units.Reading.{Reading}
 use Rattle.float.specs.Reading.{unitsAfter, readAnswer}
-use Rattle.float.specs.Answer.{codesCheck, floatPixel, floatsAfter, Exact}
-use Rattle.float.proofs.Scaled.{float-exact}
+use Rattle.float.specs.Answer.{codesCheck}
 use Rattle.float.proofs.Fractions.{unitsAt, range-is}
 
 -- ---- codes
@@ -46,19 +44,6 @@ decoded-small s v n e = small (raw s n) (raw-limited s v n (code-passed s n e))
   where
     small : (u : ℕ) → u ≤ 2 ^ 33 → natAbs (subℕ u offset) ≤ 2 ^ 40
     small u h = omega (arith, sub-dif u offset, abs-is (subℕ u offset), one-zero (subℕ u offset))
-
-pub decoded-exact : (s : Setting) → Valid s → (n : ℕ) → codeCheck s n ≡ Passed → IsFloat (decoded s n) (floatOf (decoded s n))
-decoded-exact s v n e = float-exact (decoded s n) (decoded-small s v n e)
-
--- what is decoded is exact
-pub answer-exact : (s : Setting) → Valid s → (p : Pixel) → Exact s p (floatsAfter (codesCheck s p) (floatPixel s p))
-answer-exact s v p = go (codesCheck s p) refl
-  where
-    go : (c : Check) → codesCheck s p ≡ c → Exact s p (floatsAfter c (floatPixel s p))
-    go Passed e =
-        let i = is-pixel s p e in
-        Exact.floats (decoded-exact s v (p .red .0) (i .red)) (decoded-exact s v (p .green .0) (i .green)) (decoded-exact s v (p .blue .0) (i .blue))
-    go (Refused r) e = Exact.refused
 
 -- ---- floats: what a reading says of the check and of the units
 abbrev checkOf : Reading → Check

@@ -7,7 +7,7 @@ use native.Mathlib.Nat.{add-comm, mul-one, mul-pos, mul-le-mul, mul-le-mul-right
 use native.Mathlib.Omega.{arith}
 use lib.Dec.{T, eqb, eqb→eq, leb, leb→le, le→leb, not-T, lit<}
 use lib.Bits.{bitAnd, and-mask}
-use lib.IntN.{ℤ, pos}
+use lib.IntN.{pos}
 use lib.Pow.{pow-add, pow-pos, pow-mono, field}
 use lib.Ieee.{Float, nan, inf, fin, up, down, binary64, fits, ofBits, ofFields, toBits, odd, isNan, ne}
 use lib.Ieee.Fits.{eq→eqb}

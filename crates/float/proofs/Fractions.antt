@@ -3,18 +3,18 @@
 use mathlib.Core.Bool.{Bool, true, false}
 use mathlib.Core.Path.{_≡_, refl, sym, ap, _∙_}
 use Prim.Native.Nat.{ℕ, _+_, _-_, _*_, _/_, _%_, _^_, _≤_, _<_}
-use native.Mathlib.Nat.{mul-pos, mul-le-mul-right, le-of-mul-le-mul-right, div-add-mod', mod-lt}
+use native.Mathlib.Nat.{mul-le-mul-right, le-of-mul-le-mul-right, div-add-mod', mod-lt}
 use native.Mathlib.Omega.{arith}
 use borrow.Author.Tests.{le-leb, lt-leb}
-use lib.Dec.{T, leb, leb→le, le→leb, lit<}
+use lib.Dec.{T, leb, leb→le, le→leb}
 use lib.IntN.{ℤ, pos, _-ℤ_}
-use lib.Ieee.{Float, nan, inf, fin, up, down}
+use lib.Ieee.{Float, fin, up, down}
 use lib.Ieee.Fits.{down-pos}
 use lib.Ieee.Exact.{HasValue}
 use Rattle.whole.proofs.Reflect.{at, sub, dif}
 use Rattle.rules.specs.declared.Refusal.the-variants.{FloatOutOfRange}
 use Rattle.rules.specs.Choice.{choose}
-use Rattle.rules.specs.Fraction.{Fraction, whole, _*ℚ_, nearest}
+use Rattle.rules.specs.Fraction.{whole, _*ℚ_, nearest}
 use Rattle.rules.specs.Setting.{refuseUnless}
 use Rattle.rules.specs.Float.{signed, inRange, valueOf, floatCheck, unitsOf}
 use Rattle.rules.proofs.Nearest.{nearest-is, nearest-same}

@@ -3,4 +3,5 @@ pub mod Fractions
 pub mod Fields
 pub mod Words
 pub mod Channels
--- pub mod Theorems
+pub mod Only
+pub mod Theorems

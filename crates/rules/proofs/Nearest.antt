@@ -7,7 +7,8 @@ use native.Mathlib.Omega.{arith}
 use lib.IntN.{ℤ}
 use Rattle.whole.specs.Parts.{up, dn}
 use Rattle.whole.proofs.Floor.{floor-only, half-bounds}
-use Rattle.rules.specs.Fraction.{Fraction, Versus, nearest}
+use Rattle.rules.specs.Fraction.{Fraction, ratio, integer, _+ℚ_, _-ℚ_, Versus, nearest}
+use Rattle.rules.specs.Decoding.{Less, AtMost}
 
 -- y, which is u - o, is at most x + 1/2, and y + 1 is above that
 pub nearest-is : (x : Fraction) (y : ℤ) (u o : ℕ) → up y + o ≡ u + dn y
@@ -38,3 +39,7 @@ nearest-same x y px py e =
     nearest-is x z (up z) (dn z) refl
     (low (x .plus) (x .minus) (x .over) (y .plus) (y .minus) (y .over) (up z) (dn z) px py e (b .0))
     (high (x .plus) (x .minus) (x .over) (y .plus) (y .minus) (y .over) (up z) (dn z) px py e (b .1))
+
+-- it is at most a half above x, and less than a half below: a half goes up
+pub nearest-half : (x : Fraction) → 0 < x .over → Versus AtMost (integer (nearest x) -ℚ ratio 1 2) x × Versus Less x (integer (nearest x) +ℚ ratio 1 2)
+nearest-half x p = let b = half-bounds (x .plus) (x .minus) (x .over) p (nearest x) refl in (omega arith, omega arith)

@@ -1,10 +1,9 @@
 -- `decode_pixel` meets its contract: the setting's checks first; the floats of a pixel of a valid setting are exact.
 -- Assumes nothing.
-use mathlib.Core.Path.{_≡_, sym, _∙_, subst}
+use mathlib.Core.Path.{sym, _∙_, subst}
 use borrow.Author.Needs.{needs}
-use Rattle.float.specs.declared.FloatDecoding.{FloatDecoding}
 use Rattle.float.specs.Answer.{decodePixelAnswer, Exact}
-use Rattle.float.proofs.Channels.{answer-exact}
+use Rattle.float.proofs.Theorems.{answer-exact}
 use Rattle.float.proofs.decode_pixel.Statement.{statement}
 use Rattle.float.proofs.decode_pixel.Tie as tie
 

@@ -5,7 +5,6 @@ use borrow.Author.Needs.{needs}
 use Rattle.rules.specs.declared.Check.the-variants.{Passed}
 use Rattle.rules.specs.declared.Scene.{Scene}
 use Rattle.rules.specs.Encoding.{sceneCheck}
-use lib.IntN.{ℤ}
 use lib.Ieee.{Float}
 use Rattle.float.specs.declared.FloatEncoding.{FloatEncoding}
 use Rattle.float.specs.declared.units.Reading.{Reading}

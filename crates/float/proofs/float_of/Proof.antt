@@ -4,8 +4,6 @@ use mathlib.Core.Path.{_≡_, sym, ap, _∙_, subst}
 use lib.Dec.{T}
 use lib.IntN.{ℤ}
 use lib.Ieee.{binary64, inFloat, div, ofInt, ofBits}
-use mir.Syntax.{w64}
-use mir.Val.{SFits}
 use Rattle.whole.proofs.Words.{readBack, read-back}
 use Rattle.float.proofs.Scaled.{cast-exact, quotient-is}
 use Rattle.float.proofs.float_of.Statement.{statement}

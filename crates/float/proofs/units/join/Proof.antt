@@ -1,8 +1,8 @@
 -- `join` meets its contract: each exit by its law.
 -- Assumes nothing.
-use mathlib.Core.Logic.{_⊎_, inl, inr}
+use mathlib.Core.Logic.{inl, inr}
 use mathlib.Core.Path.{_≡_, sym, ap, _∙_, subst}
-use Prim.Native.Nat.{ℕ, _≤_, _<_}
+use Prim.Native.Nat.{ℕ, _<_}
 use native.Mathlib.Omega.{arith}
 use borrow.Author.Needs.{needs}
 use lib.Dec.{eqb}
@@ -12,7 +12,6 @@ use mir.Val.{SFits, toZ, ofZ}
 use mir.Facts.{toZ-pos}
 use Rattle.whole.proofs.Words.{read-back}
 use Rattle.float.specs.declared.units.Reading.{Reading}
-use Rattle.float.specs.Reading.{unitCount}
 use Rattle.float.proofs.Fields.{read-ones, read-high, read-edge, read-low}
 use Rattle.float.proofs.Words.{count-small, minus-fits, plus-exit, minus-exit}
 use Rattle.float.proofs.units.join.Statement.{statement}
