@@ -57,11 +57,12 @@ pub fn read(x: f64) -> Reading
     ensures { λ r. ⌜ r ≡ readAnswer x ⌝ }
 {
     if x != x {
-        return Reading::Refused(Refusal::FloatNotFinite);
+        Reading::Refused(Refusal::FloatNotFinite)
+    } else {
+        let bits: u64 = f64::to_bits(x);
+        let sign: u64 = bits >> 63;
+        let exponent: u64 = (bits >> 52) & 0x7ff;
+        let fraction: u64 = bits & 0xf_ffff_ffff_ffff;
+        join(sign, exponent, fraction)
     }
-    let bits: u64 = f64::to_bits(x);
-    let sign: u64 = bits >> 63;
-    let exponent: u64 = (bits >> 52) & 0x7ff;
-    let fraction: u64 = bits & 0xf_ffff_ffff_ffff;
-    join(sign, exponent, fraction)
 }

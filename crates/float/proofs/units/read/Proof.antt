@@ -26,4 +26,4 @@ returns-2 : tie.Need-returns-2
 returns-2 c = c .join .ensures ∙ ap readAnswer (by-parts (c .before .before .args .x) (subst T (sym (c .before .before .good .0 .1)) tt))
 
 pub read-spec : {M : Type 1} → statement M
-read-spec = tie.close (tie.spec returns float-to-bits-bits join-requires returns-2)
+read-spec = tie.close (tie.spec float-to-bits-bits join-requires returns returns-2)
