@@ -1,6 +1,7 @@
 -- FLOAT PIXELS, for every setting, pixel and float pixel.
 -- Assumes nothing.
 use mathlib.Core.Bool.{true, false}
+use mathlib.Core.List.{[], _∷_}
 use mathlib.Core.Path.{_≡_, refl, sym, ap, _∙_, subst}
 use Prim.Native.Nat.{ℕ, suc, _+_, _-_, _*_, _^_, _≤_, _<_}
 use native.Mathlib.Nat.{mul-pos}
@@ -14,7 +15,7 @@ use Rattle.rules.specs.declared.Check.the-variants.{Passed, Refused}
 use Rattle.rules.specs.declared.Pixel.{Pixel}
 use Rattle.rules.specs.declared.Setting.{Setting}
 use Rattle.rules.specs.Fraction.{ratio, whole, integer, _+ℚ_, _-ℚ_, _*ℚ_, Versus}
-use Rattle.rules.specs.Refusal.{then, numberOfCheck}
+use Rattle.rules.specs.Refusal.{then}
 use Rattle.rules.specs.Setting.{settingCheck, codeCheck, Valid}
 use Rattle.rules.specs.Decoding.{Less, AtMost}
 use Rattle.rules.specs.Float.{signed, valueOf, floatCheck, unitsOf, IsFloat, negative, floatOf}
@@ -29,7 +30,7 @@ use Rattle.float.specs.declared.FloatDecoding.{FloatDecoding}
 use Rattle.float.specs.declared.FloatEncoding.{FloatEncoding}
 use Rattle.float.specs.declared.units.Reading.{Reading}
 use Rattle.float.specs.Reading.{readAnswer}
-use Rattle.float.specs.Answer.{codesCheck, floatsCheck, floatPixel, codePixel, floatsAfter, codesAfter, decodePixelAnswer, encodePixelAnswer, Exact, decodingGiven, encodingGiven}
+use Rattle.float.specs.Answer.{codesCheck, floatsCheck, floatPixel, codePixel, floatsAfter, codesAfter, decodePixelAnswer, encodePixelAnswer, Exact, decodingGiven, encodingGiven, givenAfter}
 use Rattle.float.proofs.Scaled.{float-exact, float-value}
 use Rattle.float.proofs.Fractions.{unitsAt, read-at, read-inside}
 use Rattle.float.proofs.Channels.{is-pixel, decoded-small, check-is, scene-is}
@@ -108,19 +109,21 @@ decoded-encodes s p f e = go (then (settingCheck s) (codesCheck s p)) refl e
         ap (encodePixelAnswer s) (sym (ap (floatsIn f) e)) ∙ floats-encode s (b .0) p (is-pixel s p (b .1))
     go (Refused r) g e = absurd (subst IsDecoded (sym e) tt)
 
--- the paper's number of an answer is that of the first check that fails, and 0 where all pass
-pub decoding-number : (s : Setting) (p : Pixel) → decodingGiven (decodePixelAnswer s p) .0 ≡ numberOfCheck (then (settingCheck s) (codesCheck s p))
+-- the paper's number and values of an answer: those of the first check that fails, or 0 and the values where all pass
+pub decoding-given : (s : Setting) (p : Pixel)
+    → decodingGiven (decodePixelAnswer s p) ≡ givenAfter (then (settingCheck s) (codesCheck s p)) (floatOf (decoded s (p .red .0)) ∷ floatOf (decoded s (p .green .0)) ∷ floatOf (decoded s (p .blue .0)) ∷ [])
 unfolding decodePixelAnswer
-decoding-number s p = go (then (settingCheck s) (codesCheck s p))
+decoding-given s p = go (then (settingCheck s) (codesCheck s p))
   where
-    go : (c : Check) → decodingGiven (floatsAfter c (floatPixel s p)) .0 ≡ numberOfCheck c
+    go : (c : Check) → decodingGiven (floatsAfter c (floatPixel s p)) ≡ givenAfter c (floatOf (decoded s (p .red .0)) ∷ floatOf (decoded s (p .green .0)) ∷ floatOf (decoded s (p .blue .0)) ∷ [])
     go Passed = refl
     go (Refused r) = refl
 
-pub encoding-number : (s : Setting) (f : FloatPixel) → encodingGiven (encodePixelAnswer s f) .0 ≡ numberOfCheck (then (settingCheck s) (floatsCheck f))
+pub encoding-given : (s : Setting) (f : FloatPixel)
+    → encodingGiven (encodePixelAnswer s f) ≡ givenAfter (then (settingCheck s) (floatsCheck f)) (encoded s (unitsOf (f .red)) ∷ encoded s (unitsOf (f .green)) ∷ encoded s (unitsOf (f .blue)) ∷ [])
 unfolding encodePixelAnswer
-encoding-number s f = go (then (settingCheck s) (floatsCheck f))
+encoding-given s f = go (then (settingCheck s) (floatsCheck f))
   where
-    go : (c : Check) → encodingGiven (codesAfter c (codePixel s f)) .0 ≡ numberOfCheck c
+    go : (c : Check) → encodingGiven (codesAfter c (codePixel s f)) ≡ givenAfter c (encoded s (unitsOf (f .red)) ∷ encoded s (unitsOf (f .green)) ∷ encoded s (unitsOf (f .blue)) ∷ [])
     go Passed = refl
     go (Refused r) = refl

@@ -62,3 +62,8 @@ decodingGiven (FloatDecoding.Refused r) = (numberOf r, [])
 abbrev pub encodingGiven : FloatEncoding → ℕ × List ℕ
 encodingGiven (FloatEncoding.Pixel p) = (0, p .red .0 ∷ p .green .0 ∷ p .blue .0 ∷ [])
 encodingGiven (FloatEncoding.Refused r) = (numberOf r, [])
+
+-- the same of a check and of values that are given where it passes
+abbrev pub givenAfter : {A : Type 0} → Check → List A → ℕ × List A
+givenAfter check.Check.Passed values = (0, values)
+givenAfter (check.Check.Refused r) values = (numberOf r, [])
