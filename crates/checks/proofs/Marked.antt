@@ -23,6 +23,7 @@ use Rattle.rules.specs.Curve.{logC4, exponent}
 use Rattle.rules.specs.Exact.{Scale, signal, scaleOf, powerFor, VersusPart}
 use Rattle.rules.specs.Decoding.{Less, Greater, Decodes, DecodesPart, nearness, unit}
 use Rattle.rules.specs.Encoding.{IsNearest, sceneCheck}
+use Rattle.rules.specs.Float.{valueOf, floatCheck, unitsOf}
 use Rattle.rules.proofs.Values as values
 use Rattle.rules.specs.declared.Answer.the-variants.{Refused}
 use Rattle.rules.specs.declared.Refusal.the-variants.{PartialRecord}
@@ -135,7 +136,7 @@ no-pixel = ap (λ (f : Found). numberOfCheck (foundCheck f)) nothing-found
 
 -- THE LIST
 pub marked : Marked
-unfolding settingCheck sceneCheck
+unfolding settingCheck sceneCheck floatCheck unitsOf valueOf
 marked =
     record {
       code-4095 = code-4095;
@@ -155,4 +156,6 @@ marked =
       scene-limit-passes = refl;
       scene-past-limit = refl;
       no-pixel = no-pixel;
+      float-half = (refl, refl);
+      float-minus-half = (refl, refl);
     }

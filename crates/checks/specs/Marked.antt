@@ -5,6 +5,7 @@ use mathlib.Core.Path.{_≡_}
 use mathlib.Core.List.{List}
 use mathlib.Core.Logic.{_⊎_}
 use Prim.Native.Nat.{ℕ, _+_, _^_}
+use lib.Ieee.{fin}
 use lib.IntN.{ℤ, pos, negsuc}
 use lib.ListN.{length}
 use Rattle.rules.specs.declared.Answer.the-variants.{Refused}
@@ -18,6 +19,7 @@ use Rattle.rules.specs.Setting.{settingCheck, codeCheck, curveOf, topOf, Valid}
 use Rattle.rules.specs.Exact.{signal, scaleOf, VersusExact}
 use Rattle.rules.specs.Decoding.{Decodes}
 use Rattle.rules.specs.Encoding.{IsNearest, sceneCheck}
+use Rattle.rules.specs.Float.{floatCheck, unitsOf}
 use Rattle.rules.specs.Matrix.{matrixOf, IsAces}
 use Rattle.rules.specs.WayBack.{triple, foundCheck}
 use Rattle.rules.specs.Strip.{answerOf}
@@ -63,3 +65,6 @@ pub record Marked : Type 0 where
   pub scene-past-limit : numberOfCheck (sceneCheck (pos (limit + 1))) ≡ 7
   -- "ACES -290085, -290085, -290084 under curve 3, width 12, EI 800: 10."
   pub no-pixel : numberOfCheck (then (settingCheck (setting 3 12 800)) (foundCheck (pixelFor (setting 3 12 800) (triple (negsuc 290084) (negsuc 290084) (negsuc 290083))))) ≡ 10
+  -- "Float 2^-25 is unit 1, -2^-25 is 0." (-25 is negsuc 24)
+  pub float-half : (floatCheck (fin false 1 (negsuc 24)) ≡ Passed) × (unitsOf (fin false 1 (negsuc 24)) ≡ pos 1)
+  pub float-minus-half : (floatCheck (fin true 1 (negsuc 24)) ≡ Passed) × (unitsOf (fin true 1 (negsuc 24)) ≡ pos 0)

@@ -11,6 +11,7 @@ use Rattle.rules.specs.Setting.{codeCheck}
 use Rattle.rules.specs.WayBack.{IsPixel}
 use Rattle.rules.specs.Record.{codeBytes, channelAt}
 use Rattle.rules.specs.Refusal.{then}
+use Rattle.rules.proofs.Settings.{both}
 use Rattle.conversion.specs.Conversions.{channelChecks, pixelIn}
 
 then-refused : (x next : Check) (why : Refusal) → x ≡ Refused why → x ≡ then x next
@@ -39,17 +40,6 @@ module _ (a : ℕ) (check : ℕ → Check) (r : List ℕ) {red : Check} (e : red
       ∙ then-passed (check (channelAt a r 0)) (then (check (channelAt a r 1)) (check (channelAt a r 2))) (sym e ∙ p)
 
 -- where all pass, each passes
-pub both : (x y : Check) → then x y ≡ Passed → (x ≡ Passed) × (y ≡ Passed)
-both Passed y e = (refl, e)
-both (Refused why) y e = absurd (clash e)
-  where
-    IsRefused : Check → Type 0
-    IsRefused Passed = ⊥
-    IsRefused (Refused why) = Unit {0}
-
-    clash : Refused why ≡ Passed → ⊥
-    clash e = subst IsRefused e tt
-
 pub record AllPass (a : ℕ) (check : ℕ → Check) (r : List ℕ) : Type 0 where
   pub red : check (channelAt a r 0) ≡ Passed
   pub green : check (channelAt a r 1) ≡ Passed

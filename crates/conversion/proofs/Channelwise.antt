@@ -11,8 +11,9 @@ use Rattle.rules.specs.Setting.{settingCheck, Valid}
 use Rattle.rules.specs.Record.{settingOf, Channels, channelAt, channelsOf, recordOf}
 use Rattle.rules.specs.Strip.{recordCheck}
 use Rattle.rules.proofs.Records.{FitsRecord, value-small, drop-bytes, read-setting, read-channels, write-read}
+use Rattle.rules.proofs.Settings.{both}
 use Rattle.conversion.specs.Conversions.{channelChecks, channelwise}
-use Rattle.conversion.proofs.Channels.{both, AllPass, all-pass}
+use Rattle.conversion.proofs.Channels.{AllPass, all-pass}
 use Rattle.conversion.proofs.Good.{Good}
 
 module _ (a b : ℕ) (check check′ : Setting → ℕ → Check) (one two : Setting → ℕ → ℕ) where

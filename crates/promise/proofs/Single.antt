@@ -24,7 +24,7 @@ use Rattle.rules.specs.Record.{IsBytes, toBits, ofBits, numberBytes, codeBytes,
 use Rattle.rules.specs.Strip.{recordCheck}
 use Rattle.rules.specs.WayBack.{IsPixel, foundCheck}
 use Rattle.rules.proofs.Records.{FitsRecord, value-small, drop-bytes, read-setting, read-channels, write-read, of-to, to-of, bits-fit, length-record}
-use Rattle.rules.proofs.Settings.{code-passed}
+use Rattle.rules.proofs.Settings.{both, code-passed}
 use Rattle.curve.specs.Decoded.{decoded}
 use Rattle.matrix.specs.Row.{Small3, Given}
 use Rattle.matrix.proofs.Inverse.{aces-small}
@@ -32,7 +32,7 @@ use Rattle.matrix.proofs.Theorems.{decoded-small}
 use Rattle.wayback.specs.Back.{pixelAces, pixelFor}
 use Rattle.wayback.proofs.Theorems.{found-gives, own-found, one-pixel}
 use Rattle.conversion.specs.Conversions.{channelChecks, pixelIn, pixelRecord, tripleIn, acesRecord, pixelFound, pixelToAces, acesToPixel}
-use Rattle.conversion.proofs.Channels.{both, codes-pixel}
+use Rattle.conversion.proofs.Channels.{codes-pixel}
 use Rattle.conversion.proofs.Good.{Good}
 use Rattle.promise.specs.Words.{given, HoldsPixel, Without, OnlyPixel}
 

@@ -4,3 +4,4 @@ pub mod Settings
 pub mod Records
 pub mod Closest
 pub mod Search
+pub mod Between

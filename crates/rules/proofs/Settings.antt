@@ -46,10 +46,17 @@ unfolding IsRefused
 passed-only true r e = tt
 passed-only false r e = subst IsRefused e tt
 
-both-passed : (x : Bool) (r : Refusal) (next : Check) → then (refuseUnless x r) next ≡ Passed → T x × (next ≡ Passed)
+pub refused-never : {A : Type 0} {r : Refusal} → Refused r ≡ Passed → A
 unfolding IsRefused
-both-passed true r next e = (tt, e)
-both-passed false r next e = absurd (subst IsRefused e tt)
+refused-never e = absurd (subst IsRefused e tt)
+
+-- where two checks pass, each passes
+pub both : (x y : Check) → then x y ≡ Passed → (x ≡ Passed) × (y ≡ Passed)
+both Passed y e = (refl, e)
+both (Refused r) y e = refused-never e
+
+both-passed : (x : Bool) (r : Refusal) (next : Check) → then (refuseUnless x r) next ≡ Passed → T x × (next ≡ Passed)
+both-passed x r next e = let b = both (refuseUnless x r) next e in (passed-only x r (b .0), b .1)
 
 pub record Members (s : Setting) : Type 0 where
   pub curve : T (member (s .curve) curves)

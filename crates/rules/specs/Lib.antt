@@ -11,3 +11,4 @@ pub mod Encoding
 pub mod Matrix
 pub mod ExactRow
 pub mod WayBack
+pub mod Float

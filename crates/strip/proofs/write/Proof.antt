@@ -13,10 +13,10 @@ use Rattle.rules.specs.declared.Check.the-variants.{Passed}
 use Rattle.rules.specs.Record.{settingOf}
 use Rattle.rules.specs.Setting.{Valid, settingCheck}
 use Rattle.rules.specs.Strip.{Conversion}
+use Rattle.rules.proofs.Settings.{both}
 use Rattle.records.proofs.Stretch.{pasted}
 use Rattle.curve.specs.Ready.{Ready}
 use Rattle.conversion.specs.Conversions.{conversionOf}
-use Rattle.conversion.proofs.Channels.{both}
 use Rattle.conversion.proofs.EveryKind.{from-large, kind-long}
 use Rattle.strip.proofs.Cut.{cut, cut-at, length-cut, room-at}
 use Rattle.strip.proofs.FirstPass.{passed}
