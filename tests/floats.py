@@ -85,8 +85,8 @@ def main():
             continue
         xs = FLOAT.unpack(BITS.pack(*map(int, line.split())))
         for n, x in zip(codes, xs):
-            y = table[s][n]
-            assert Fraction(x) == Fraction(y, UNIT) and (y or str(x) == "0.0"), (s, n, x)
+            y, (over, under) = table[s][n], x.as_integer_ratio()
+            assert over * UNIT == y * under and (y or str(x) == "0.0"), (s, n, x)
         decoded += len(set(codes))
         floats.append((s, codes, xs))
 
