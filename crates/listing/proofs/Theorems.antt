@@ -6,12 +6,12 @@ use mathlib.Core.List.{List, [], _∷_, _++_, append-assoc, append-nil}
 use Prim.Native.Nat.{ℕ, zero, suc, _+_, _-_, _*_, _/_, _%_, _≤_, _<_}
 use native.Mathlib.Omega.{arith}
 use lib.Dec.{ltb}
-use lib.ListN.{length, getD, length-append, List·getD-append}
+use lib.ListN.{length, drop, getD, length-append, List·getD-append}
 use borrow.Author.Tests.{ltb-true, ltb-false}
 use Rattle.rules.specs.Strip.{records}
 use Rattle.strip.proofs.Join.{records-append}
 use Rattle.listing.specs.Decimal.{digit, decimal}
-use Rattle.listing.specs.Line.{lines, tailLine, listed}
+use Rattle.listing.specs.Line.{lines, tailLine, listed, textFor, Lists}
 use Rattle.listing.proofs.Digits.{decimal-small, decimal-large}
 use Rattle.listing.proofs.Lines.{lines-append, length-records, tail-none}
 
@@ -34,6 +34,11 @@ module _ (k m : ℕ) (a b : List ℕ) (whole : length a ≡ m * 10) where
   unfolding listed
   listed-pieces =
       rw (count, over, records-append 10 m (length b / 10) a b whole, lines-append, length-records, alone, append-assoc)
+
+-- THE COUNT is of bytes within the output
+pub count-within : {k count : ℕ} {input output after : List ℕ} → Lists k input output count after → count ≤ length after
+count-within {k} {count} {input} {output} l =
+    omega (arith, l .counts, ap length (l .writes), length-append (textFor k input output) (drop count output))
 
 -- ---- the number that digits write
 abbrev pub numberIn : (sum : ℕ) → List ℕ → ℕ
