@@ -11,13 +11,17 @@ use Rattle.rules.specs.declared.Check as check
 use Rattle.rules.specs.declared.Triple.{Triple}
 use Rattle.rules.specs.Choice.{choose}
 use Rattle.rules.specs.Refusal.{numberOf}
-use Rattle.rules.specs.Record.{settingOf}
+use Rattle.rules.specs.Record.{codeBytes, sizeOf, settingOf}
 use Rattle.rules.specs.Strip.{recordCheck, records}
 use Rattle.wayback.specs.Back.{pixelAces}
 use Rattle.conversion.specs.Conversions.{pixelToAces, pixelIn}
 use Rattle.listing.specs.declared.Outcome.{Outcome}
 use Rattle.listing.specs.declared.Outcome.the-variants.{Aces, Refused}
 use Rattle.listing.specs.Decimal.{decimal, signed}
+
+-- "Pixel record, 10 bytes"
+abbrev pub size : ℕ
+size = sizeOf codeBytes
 
 -- `ok`, `refused` and `tail`
 abbrev pub ok : List ℕ
@@ -66,7 +70,7 @@ tailLine n = choose (eqb n 0) [] (lineOf (tail ∷ decimal n ∷ []))
 
 -- all that is printed for bytes whose first record has the index k
 unfoldable pub listed : (k : ℕ) → List ℕ → List ℕ
-listed k s = lines k (records 10 (length s / 10) s) ++ tailLine (length s % 10)
+listed k s = lines k (records size (length s / size) s) ++ tailLine (length s % size)
 
 -- no line is longer than 66 bytes, and no tail's than 7: room for the text of so many bytes
 abbrev pub longest : ℕ
@@ -76,7 +80,7 @@ abbrev pub longestTail : ℕ
 longestTail = 7
 
 abbrev pub enough : (k : ℕ) → (input output : List ℕ) → Bool
-enough k input output = choose (leb (longest * (length input / 10) + longestTail) (length output)) (ltb (k + length input / 10) (2 ^ 64)) false
+enough k input output = choose (leb (longest * (length input / size) + longestTail) (length output)) (ltb (k + length input / size) (2 ^ 64)) false
 
 -- the text that is made of bytes: what is printed for them, or none where the output has not room for the longest or an index is too large
 unfoldable pub textFor : (k : ℕ) → (input output : List ℕ) → List ℕ

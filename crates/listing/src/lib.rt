@@ -5,7 +5,7 @@ ghost use lib.ListN.{length};
 ghost use Rattle.rules.specs.Setting.{Valid};
 ghost use Rattle.rules.specs.Record.{settingOf};
 ghost use Rattle.rules.specs.Strip.{records};
-ghost use Rattle.listing.specs.Line.{longest, outcomeOf, line, lines, tailLine, Lists};
+ghost use Rattle.listing.specs.Line.{size, longest, outcomeOf, line, lines, Lists};
 ghost use Rattle.listing.specs.Put.{Room, Put};
 
 mod text;
@@ -17,6 +17,13 @@ use rules::Refusal;
 use rules::Setting;
 use rules::Triple;
 
+// The bytes of a pixel record, of the longest line, and of the longest line of a tail.
+const RECORD: usize = 10;
+
+const LONGEST: usize = 66;
+
+const LONGEST_TAIL: usize = 7;
+
 // What becomes of a record: three ACES numbers, or the refusal.
 pub enum Outcome {
     Aces(Triple),
@@ -25,20 +32,20 @@ pub enum Outcome {
 
 fn judge_valid(s: Setting, r: &[u8]) -> Outcome
     requires { ⌜ Valid s ⌝ }
-    requires { ⌜ (s ≡ settingOf (now r)) × (length (now r) ≡ 10) ⌝ }
+    requires { ⌜ (s ≡ settingOf (now r)) × (length (now r) ≡ size) ⌝ }
     ensures { λ o. ⌜ o ≡ outcomeOf (now (r .entry)) ⌝ }
 {
     let d = Decoder::new(s);
     let t = table::table(s);
     match conversion::check_inner(Kind::PixelToAces, s, d, &t, r) {
-        Check::Refused(why) => Outcome::Refused(why),
+        Check::Refused(cause) => Outcome::Refused(cause),
         Check::Passed => Outcome::Aces(wayback::to_aces(s, d, &t, conversion::pixel_in(r))),
     }
 }
 
 // A record judged alone: refusals 3, 4, 5, then 6.
 fn judge(r: &[u8]) -> Outcome
-    requires { ⌜ length (now r) ≡ 10 ⌝ }
+    requires { ⌜ length (now r) ≡ size ⌝ }
     ensures { λ o. ⌜ o ≡ outcomeOf (now (r .entry)) ⌝ }
 {
     let s = records::setting_of(r);
@@ -60,48 +67,37 @@ fn put_line(out: &mut [u8], at: usize, index: u64, o: Outcome) -> usize
     }
 }
 
-// The lines of the first n records, of which the first has the index k.
-fn put_lines(k: u64, input: &[u8], n: usize, out: &mut [u8]) -> usize
-    requires { ⌜ (n * 10 ≤ length (now input)) × (longest * n ≤ length (now out)) × (k + n < 2 ^ 64) ⌝ }
-    ensures { λ end. ⌜ Put (lines k (records 10 n (now (input .entry)))) (now (out .entry)) 0 (now (out .exit)) end ⌝ }
+// The lines of the first n records, of which the first has the index `first`.
+fn put_lines(first: u64, input: &[u8], n: usize, out: &mut [u8]) -> usize
+    requires { ⌜ (n * size ≤ length (now input)) × (longest * n ≤ length (now out)) × (first + n < 2 ^ 64) ⌝ }
+    ensures { λ end. ⌜ Put (lines first (records size n (now (input .entry)))) (now (out .entry)) 0 (now (out .exit)) end ⌝ }
 {
     let mut at = 0;
     let mut i = 0;
     while i < n {
-        let a = i * 10;
-        let o = judge(&input[a..a + 10]);
-        at = put_line(out, at, k + i as u64, o);
+        let a = i * RECORD;
+        let o = judge(&input[a..a + RECORD]);
+        at = put_line(out, at, first + i as u64, o);
         i += 1;
     }
     at
 }
 
-// The line of the bytes short of a record.
-fn put_tail(out: &mut [u8], at: usize, n: usize) -> usize
-    requires { ⌜ Room (tailLine n) (now out) at ⌝ }
-    ensures { λ end. ⌜ Put (tailLine n) (now (out .entry)) at (now (out .exit)) end ⌝ }
+// The text of bytes whose first record has the index `first`, at the start of the output: how many bytes it has. An output without room for
+// the longest text of so many records is left as it was, and the answer is 0; so too where an index is too large for its type.
+pub fn list(first: u64, input: &[u8], out: &mut [u8]) -> usize
+    ensures { λ count. ⌜ Lists first (now (input .entry)) (now (out .entry)) count (now (out .exit)) ⌝ }
 {
-    if n == 0 {
-        return at;
-    }
-    text::put_tail(out, at, n)
-}
-
-// The text of bytes whose first record has the index k, at the start of the output: how many bytes it has. An output without room for the
-// longest text of so many records, 66 bytes for each and 7, is left as it was, and the answer is 0; so too where an index is 2^64 or more.
-pub fn list(k: u64, input: &[u8], out: &mut [u8]) -> usize
-    ensures { λ count. ⌜ Lists k (now (input .entry)) (now (out .entry)) count (now (out .exit)) ⌝ }
-{
-    let n = input.len() / 10;
-    if out.len() < 7 {
+    let n = input.len() / RECORD;
+    if out.len() < LONGEST_TAIL {
         return 0;
     }
-    if (out.len() - 7) / 66 < n {
+    if (out.len() - LONGEST_TAIL) / LONGEST < n {
         return 0;
     }
-    if 18446744073709551615 - k < n as u64 {
+    if u64::MAX - first < n as u64 {
         return 0;
     }
-    let at = put_lines(k, input, n, out);
-    put_tail(out, at, input.len() % 10)
+    let at = put_lines(first, input, n, out);
+    text::put_tail(out, at, input.len() % RECORD)
 }

@@ -1,9 +1,8 @@
 // Words of text, put one behind the other into a buffer.
-ghost use mathlib.Core.List.{[], _∷_, _++_};
-ghost use Rattle.rules.specs.Refusal.{numberOf};
+ghost use mathlib.Core.List.{[], _∷_};
 ghost use Rattle.listing.specs.declared.Outcome.the-variants.{Aces, Refused};
 ghost use Rattle.listing.specs.Decimal.{decimal, signed};
-ghost use Rattle.listing.specs.Line.{ok, refused, tail, followed, lineOf, words};
+ghost use Rattle.listing.specs.Line.{followed, lineOf, words, tailLine};
 ghost use Rattle.listing.specs.Put.{Room, Put};
 use rules::Refusal;
 use rules::Triple;
@@ -99,11 +98,14 @@ pub fn put_refused(out: &mut [u8], at: usize, why: Refusal) -> usize
     put_number(out, then, setting::refusal_number(why) as u64, NEWLINE)
 }
 
-// `tail` and a count, to the end of the line.
+// `tail` and a count, to the end of the line; nothing where the count is 0.
 pub fn put_tail(out: &mut [u8], at: usize, n: usize) -> usize
-    requires { ⌜ Room (lineOf (tail ∷ decimal n ∷ [])) (now out) at ⌝ }
-    ensures { λ end. ⌜ Put (lineOf (tail ∷ decimal n ∷ [])) (now (out .entry)) at (now (out .exit)) end ⌝ }
+    requires { ⌜ Room (tailLine n) (now out) at ⌝ }
+    ensures { λ end. ⌜ Put (tailLine n) (now (out .entry)) at (now (out .exit)) end ⌝ }
 {
+    if n == 0 {
+        return at;
+    }
     let then = put_word(out, at, b"tail ");
     put_number(out, then, n as u64, NEWLINE)
 }

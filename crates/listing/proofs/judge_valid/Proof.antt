@@ -35,7 +35,7 @@ returns : tie.Need-returns
 returns c =
     let k = c .before .before .before in
     let s = k .before .before .before .before .before in
-    code-refused (now (s .args .r)) (valid s) (sym (k .check-inner .ensures) ∙ c .before .why .given .1)
+    code-refused (now (s .args .r)) (valid s) (sym (k .check-inner .ensures) ∙ c .before .cause .given .1)
 
 returns-2 : tie.Need-returns-2
 returns-2 c =

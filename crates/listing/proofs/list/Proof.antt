@@ -13,7 +13,7 @@ use Rattle.listing.proofs.list.Tie as tie
 room : (c : tie.Else3) → longest * (length (now (c .before .before .before .before .before .args .input)) / 10) + longestTail ≤ length (now (c .before .before .before .before .before .args .out))
 room c = omega (arith, c .before .if2 .left, c .before .before .if1 .left)
 
-indices : (c : tie.Else3) → c .before .before .before .before .before .args .k + length (now (c .before .before .before .before .before .args .input)) / 10 < 2 ^ 64
+indices : (c : tie.Else3) → c .before .before .before .before .before .args .first + length (now (c .before .before .before .before .before .args .input)) / 10 < 2 ^ 64
 indices c = omega (arith, c .if3 .left)
 
 returns : tie.Need-returns
@@ -30,14 +30,14 @@ put-tail-requires c κs =
     let p = c .before .before .before in
     let k = p .before .before in
     let s = k .before .before .before .before .before in
-    lower-room (s .args .k) (now (s .args .input)) (now (s .args .out)) (room k) (indices k) (p .put-lines .ensures)
+    lower-room (s .args .first) (now (s .args .input)) (now (s .args .out)) (room k) (indices k) (p .put-lines .ensures)
 
 returns-4 : tie.Need-returns-4
 returns-4 c =
     let p = c .before .before .before .before .before .before in
     let k = p .before .before in
     let s = k .before .before .before .before .before in
-    all-listed (s .args .k) (now (s .args .input)) (now (s .args .out)) (room k) (indices k) (p .put-lines .ensures) (c .before .before .put-tail .ensures)
+    all-listed (s .args .first) (now (s .args .input)) (now (s .args .out)) (room k) (indices k) (p .put-lines .ensures) (c .before .before .put-tail .ensures)
 
 pub list-spec : {M : Type 1} → statement M
 list-spec =

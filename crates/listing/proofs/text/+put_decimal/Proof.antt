@@ -35,29 +35,29 @@ large-room {n} h r = rw (decimal-large n h) at r
 
 module _ (t : ℕ) where
   put-byte-requires : put-decimal-lts.Need-put-byte-requires (put-byte-reads.Asked, put-byte-reads.Learnt, put-decimal-below t, put-decimal.Post) (put-decimal-at t) put-decimal.Post
-  put-byte-requires c κs = small-room (c .before .if1 .taken) (c .before .before .before .pre .1)
+  put-byte-requires c κs = small-room (omega (arith, c .before .if1 .taken)) (c .before .before .before .pre .1)
 
   returns : put-decimal-lts.Need-returns (put-byte-reads.Asked, put-byte-reads.Learnt, put-decimal-below t, put-decimal.Post) (put-decimal-at t) put-decimal.Post
   returns c =
       let k = c .before .before .before .before in
-      rw (decimal-small (k .before .before .args .n) (k .if1 .taken)) (c .before .before .put-byte .ensures)
+      rw (decimal-small (k .before .before .args .n) (omega (arith, k .if1 .taken))) (c .before .before .put-byte .ensures)
 
   put-decimal-requires : put-decimal-lts.Need-put-decimal-requires (put-byte-reads.Asked, put-byte-reads.Learnt, put-decimal-below t, put-decimal.Post) (put-decimal-at t) put-decimal.Post
   put-decimal-requires c κs =
       let s = c .before .before .before in
-      (omega (arith, s .pre .0), room-first (decimal (s .args .n / 10)) (digit (s .args .n % 10) ∷ []) (large-room (c .before .if1 .left) (s .pre .1)))
+      (omega (arith, s .pre .0), room-first (decimal (s .args .n / 10)) (digit (s .args .n % 10) ∷ []) (large-room (omega (arith, c .before .if1 .left)) (s .pre .1)))
 
   put-byte-requires-2 : put-decimal-lts.Need-put-byte-requires-2 (put-byte-reads.Asked, put-byte-reads.Learnt, put-decimal-below t, put-decimal.Post) (put-decimal-at t) put-decimal.Post
   put-byte-requires-2 c κs =
       let p = c .before .before .before in
       let s = p .before .before .before .before in
-      room-next (decimal (s .args .n / 10)) (digit (s .args .n % 10) ∷ []) (large-room (p .before .before .if1 .left) (s .pre .1)) (p .put-decimal .ensures)
+      room-next (decimal (s .args .n / 10)) (digit (s .args .n % 10) ∷ []) (large-room (omega (arith, p .before .before .if1 .left)) (s .pre .1)) (p .put-decimal .ensures)
 
   returns-2 : put-decimal-lts.Need-returns-2 (put-byte-reads.Asked, put-byte-reads.Learnt, put-decimal-below t, put-decimal.Post) (put-decimal-at t) put-decimal.Post
   returns-2 c =
       let p = c .before .before .before .before .before .before in
       let s = p .before .before .before .before in
-      let h = p .before .before .if1 .left in
+      let h : 10 ≤ s .args .n = omega (arith, p .before .before .if1 .left) in
       rw (decimal-large (s .args .n) h)
       (put-both (decimal (s .args .n / 10)) (digit (s .args .n % 10) ∷ []) (large-room h (s .pre .1)) (p .put-decimal .ensures) (c .before .before .put-byte2 .ensures))
 
