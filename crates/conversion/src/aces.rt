@@ -16,7 +16,7 @@ use rules::Setting;
 use rules::Triple;
 
 // The pixel of a pixel record.
-fn pixel_in(r: &[u8]) -> Pixel
+pub fn pixel_in(r: &[u8]) -> Pixel
     requires { ⌜ length (now r) ≡ 10 ⌝ }
     ensures { λ p. ⌜ p ≡ pixelIn (now (r .entry)) ⌝ }
 {

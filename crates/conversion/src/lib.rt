@@ -11,6 +11,7 @@ mod aces;
 mod pixel;
 mod scene;
 
+pub use aces::pixel_in;
 use curve::decoder::Decoder;
 use rules::Check;
 use rules::Setting;

@@ -1,0 +1,53 @@
+-- The parts of a line, of lines, and of the text of bytes.
+-- Assumes nothing.
+use mathlib.Core.Bool.{true, false}
+use mathlib.Core.Path.{_≡_, refl, sym, ap, _∙_}
+use mathlib.Core.List.{List, [], _∷_, _++_, append-assoc, append-nil}
+use Prim.Native.Nat.{ℕ, zero, suc, _+_}
+use native.Mathlib.Nat.{add-zero, add-suc, suc-add}
+use native.Mathlib.Omega.{arith}
+use lib.ListN.{length, drop}
+use borrow.Author.Tests.{eq-eqb, ne-eqb}
+use Rattle.rules.specs.Strip.{records}
+use Rattle.strip.proofs.Cut.{cut, records-more}
+use Rattle.listing.specs.declared.Outcome.{Outcome}
+use Rattle.listing.specs.declared.Outcome.the-variants.{Aces, Refused}
+use Rattle.listing.specs.Decimal.{decimal}
+use Rattle.listing.specs.Line.{followed, lineOf, words, line, outcomeOf, lines, tail, tailLine}
+
+-- a line is its index with the space behind it, and the words of the record
+pub line-parts : (k : ℕ) (o : Outcome) → line k o ≡ followed (decimal k) 32 ++ lineOf (words o)
+line-parts k (Aces a) = refl
+line-parts k (Refused why) = refl
+
+-- no tail, and some
+pub tail-none : (n : ℕ) → n ≡ 0 → tailLine n ≡ []
+tail-none n e = rw (eq-eqb n 0 e)
+
+pub tail-some : (n : ℕ) → (n ≡ 0 → ⊥) → tailLine n ≡ lineOf (tail ∷ decimal n ∷ [])
+tail-some n e = rw (ne-eqb n 0 e)
+
+-- ---- lines, one record after the other
+pub lines-append : (k : ℕ) (xs ys : List (List ℕ)) → lines k (xs ++ ys) ≡ lines k xs ++ lines (k + length xs) ys
+unfolding lines
+lines-append k [] ys = rw add-zero
+lines-append k (x ∷ xs) ys =
+    let e : suc k + length xs ≡ k + suc (length xs) = omega arith in
+    rw (lines-append (suc k) xs ys, e, append-assoc)
+
+pub length-records : (size n : ℕ) (s : List ℕ) → length (records size n s) ≡ n
+unfolding records
+length-records size zero s = refl
+length-records size (suc n) s = ap suc (length-records size n (drop size s))
+
+lines-one : (k : ℕ) (r : List ℕ) → lines k (r ∷ []) ≡ line k (outcomeOf r)
+unfolding lines
+lines-one k r = append-nil (line k (outcomeOf r))
+
+pub lines-more : (k i : ℕ) (s : List ℕ) → lines k (records 10 (i + 1) s) ≡ lines k (records 10 i s) ++ line (k + i) (outcomeOf (cut 10 i s))
+lines-more k i s =
+    rw (records-more, lines-append, lines-one, length-records)
+
+pub lines-none : (k : ℕ) (s : List ℕ) → lines k (records 10 0 s) ≡ []
+unfolding lines records
+lines-none k s = refl
