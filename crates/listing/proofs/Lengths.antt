@@ -17,14 +17,14 @@ use Rattle.rules.specs.Refusal.{numberOf}
 use Rattle.rules.specs.Record.{codeBytes, settingOf, channelAt}
 use Rattle.rules.specs.Setting.{settingCheck, codeCheck}
 use Rattle.rules.specs.Strip.{recordCheck, records}
-use Rattle.rules.proofs.Settings.{code-passed}
+use Rattle.rules.proofs.Settings.{code-passed, both}
 use Rattle.curve.specs.Decoded.{decoded}
 use Rattle.matrix.specs.Row.{Given}
 use Rattle.matrix.proofs.Inverse.{aces-small}
 use Rattle.matrix.proofs.Theorems.{decoded-small}
 use Rattle.wayback.specs.Back.{pixelAces}
 use Rattle.conversion.specs.Conversions.{pixelToAces, pixelIn}
-use Rattle.conversion.proofs.Channels.{both, all-pass}
+use Rattle.conversion.proofs.Channels.{all-pass}
 use Rattle.listing.specs.declared.Outcome.the-variants.{Aces, Refused}
 use Rattle.listing.specs.Decimal.{decimal, signed}
 use Rattle.listing.specs.Line.{lineOf, line, outcomeOf, afterCheck, lines, tail, tailLine, longest, longestTail}
