@@ -1,7 +1,7 @@
 -- THE LISTER: the text of an input that is read in pieces is the texts of the pieces, one behind the other; and the digits of a number say it.
 -- Assumes nothing.
 use mathlib.Core.Bool.{Bool, true, false}
-use mathlib.Core.Path.{_≡_, refl, sym, ap, _∙_, subst}
+use mathlib.Core.Path.{_≡_, refl, ap}
 use mathlib.Core.List.{List, [], _∷_, _++_, append-assoc, append-nil}
 use Prim.Native.Nat.{ℕ, zero, suc, _+_, _-_, _*_, _/_, _%_, _≤_, _<_}
 use native.Mathlib.Omega.{arith}
@@ -11,7 +11,7 @@ use borrow.Author.Tests.{ltb-true, ltb-false}
 use Rattle.rules.specs.Strip.{records}
 use Rattle.strip.proofs.Join.{records-append}
 use Rattle.listing.specs.Decimal.{digit, decimal}
-use Rattle.listing.specs.Line.{lines, tailLine, listed, textFor, Lists}
+use Rattle.listing.specs.Line.{lines, listed, textFor, Lists}
 use Rattle.listing.proofs.Digits.{decimal-small, decimal-large}
 use Rattle.listing.proofs.Lines.{lines-append, length-records, tail-none}
 

@@ -1,15 +1,14 @@
 -- `put_ok` meets its contract: the word, and each number with the byte behind it.
 -- Assumes nothing.
-use mathlib.Core.List.{List, [], _∷_, _++_}
+use mathlib.Core.List.{List, [], _++_}
 use Prim.Native.Nat.{ℕ}
-use denote.Ref.{now}
 use mir.Syntax.{w64}
 use mir.Val.{SFits}
 use borrow.Author.Needs.{needs}
 use Rattle.whole.proofs.Words.{read-back}
 use Rattle.listing.specs.Decimal.{signed}
 use Rattle.listing.specs.Line.{ok, followed}
-use Rattle.listing.specs.Put.{Room, Put}
+use Rattle.listing.specs.Put.{Room}
 use Rattle.listing.proofs.Putting.{room-first, room-next, put-both}
 use Rattle.listing.proofs.text.put_ok.Statement.{statement}
 use Rattle.listing.proofs.text.put_ok.Tie as tie
