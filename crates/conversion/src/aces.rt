@@ -7,6 +7,7 @@ ghost use Rattle.rules.specs.WayBack.{foundCheck};
 ghost use Rattle.curve.specs.Ready.{Ready};
 ghost use Rattle.wayback.specs.Back.{pixelAces, pixelFor};
 ghost use Rattle.conversion.specs.Conversions.{channelChecks, pixelIn, pixelRecord, tripleIn, acesRecord, pixelFound};
+use super::put;
 use curve::decoder::Decoder;
 use rules::Aces;
 use rules::Check;
@@ -39,28 +40,6 @@ fn triple_in(r: &[u8]) -> Triple
     }
 }
 
-// The record of a setting and a pixel, each part in its own stretch.
-fn put_pixel(out: &mut [u8], s: Setting, p: Pixel)
-    requires { ⌜ length (now out) ≡ 10 ⌝ }
-    ensures { λ _. ⌜ now (out .exit) ≡ pixelRecord s p ⌝ }
-{
-    records::put_setting(&mut out[0..4], s);
-    records::put_word(&mut out[4..6], p.red.0);
-    records::put_word(&mut out[6..8], p.green.0);
-    records::put_word(&mut out[8..10], p.blue.0);
-}
-
-// The record of a setting and three ACES numbers, each part in its own stretch.
-fn put_triple(out: &mut [u8], s: Setting, a: Triple)
-    requires { ⌜ length (now out) ≡ 28 ⌝ }
-    ensures { λ _. ⌜ now (out .exit) ≡ acesRecord s a ⌝ }
-{
-    records::put_setting(&mut out[0..4], s);
-    records::put_long(&mut out[4..12], a.red.0);
-    records::put_long(&mut out[12..20], a.green.0);
-    records::put_long(&mut out[20..28], a.blue.0);
-}
-
 // What is written for a pixel record: its ACES record.
 pub fn write_triple(s: Setting, d: Decoder, t: &[u64; 128], r: &[u8], out: &mut [u8])
     requires { ⌜ Ready s d (now t) ⌝ }
@@ -70,7 +49,7 @@ pub fn write_triple(s: Setting, d: Decoder, t: &[u64; 128], r: &[u8], out: &mut 
     ensures { λ _. ⌜ now (out .exit) ≡ acesRecord s (pixelAces s (pixelIn (now (r .entry)))) ⌝ }
 {
     let a = wayback::to_aces(s, d, t, pixel_in(r));
-    put_triple(out, s, a);
+    put::put_numbers(out, s, a.red.0, a.green.0, a.blue.0);
 }
 
 // The check of an ACES record: refusal 10.
@@ -91,5 +70,5 @@ pub fn write_back(s: Setting, d: Decoder, t: &[u64; 128], r: &[u8], out: &mut [u
     ensures { λ _. ⌜ now (out .exit) ≡ pixelRecord s (pixelFound (pixelFor s (tripleIn (now (r .entry))))) ⌝ }
 {
     let p = wayback::pixel_of(s, d, t, triple_in(r));
-    put_pixel(out, s, p);
+    put::put_codes(out, s, p.red.0, p.green.0, p.blue.0);
 }

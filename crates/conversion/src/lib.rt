@@ -9,6 +9,7 @@ ghost use Rattle.conversion.specs.Conversions.{conversionOf};
 
 mod aces;
 mod pixel;
+mod put;
 mod scene;
 
 pub use aces::pixel_in;

@@ -3,13 +3,16 @@ ghost use mathlib.Core.Path.{_≡_};
 ghost use Prim.Native.Nat.{_+_, _<_};
 ghost use lib.ListN.{length, take, drop};
 ghost use Rattle.rules.specs.declared.Check.the-variants.{Passed};
-ghost use Rattle.rules.specs.Record.{value, digits};
+ghost use Rattle.rules.specs.Record.{value};
 ghost use Rattle.rules.specs.Setting.{codeCheck, Valid};
+ghost use Rattle.curve.specs.Decoded.{decoded};
 ghost use Rattle.curve.specs.Ready.{Ready};
 ghost use Rattle.conversion.specs.Conversions.{channelChecks, eachChannel, sceneBits};
+use super::put;
 use curve::decoder::Decoder;
 use rules::Check;
 use rules::Code;
+use rules::Scene;
 use rules::Setting;
 
 // The check of the code at a place of the record.
@@ -38,19 +41,17 @@ pub fn check_codes(s: Setting, r: &[u8]) -> Check
     check_at(s, r, 8)
 }
 
-// The scene number of the code at a place of the record, in its eight bytes.
-fn put_scene_at(s: Setting, d: Decoder, t: &[u64; 128], r: &[u8], at: usize, out: &mut [u8])
+// The scene number of the code at a place of the record.
+fn scene_at(s: Setting, d: Decoder, t: &[u64; 128], r: &[u8], at: usize) -> Scene
     requires { ⌜ Ready s d (now t) ⌝ }
     requires { ⌜ at + 1 < length (now r) ⌝ }
     requires { ⌜ codeCheck s (value (take 2 (drop at (now r)))) ≡ Passed ⌝ }
-    requires { ⌜ length (now out) ≡ 8 ⌝ }
-    ensures { λ _. ⌜ now (out .exit) ≡ digits 8 (sceneBits s (value (take 2 (drop at (now (r .entry)))))) ⌝ }
+    ensures { λ y. ⌜ y .0 ≡ decoded s (value (take 2 (drop at (now (r .entry))))) ⌝ }
 {
-    let y = d.scene(t, records::word_at(r, at) as u64);
-    records::put_long(out, y.0);
+    d.scene(t, records::word_at(r, at) as u64)
 }
 
-// What is written for a record: the setting, and each channel in its own stretch.
+// What is written for a record: its setting and scene numbers.
 pub fn write_scene(s: Setting, d: Decoder, t: &[u64; 128], r: &[u8], out: &mut [u8])
     requires { ⌜ Ready s d (now t) ⌝ }
     requires { ⌜ length (now r) ≡ 10 ⌝ }
@@ -58,8 +59,8 @@ pub fn write_scene(s: Setting, d: Decoder, t: &[u64; 128], r: &[u8], out: &mut [
     requires { ⌜ length (now out) ≡ 28 ⌝ }
     ensures { λ _. ⌜ now (out .exit) ≡ eachChannel 2 8 s (sceneBits s) (now (r .entry)) ⌝ }
 {
-    records::put_setting(&mut out[0..4], s);
-    put_scene_at(s, d, t, r, 4, &mut out[4..12]);
-    put_scene_at(s, d, t, r, 6, &mut out[12..20]);
-    put_scene_at(s, d, t, r, 8, &mut out[20..28]);
+    let red = scene_at(s, d, t, r, 4);
+    let green = scene_at(s, d, t, r, 6);
+    let blue = scene_at(s, d, t, r, 8);
+    put::put_numbers(out, s, red.0, green.0, blue.0);
 }

@@ -3,11 +3,13 @@ ghost use mathlib.Core.Path.{_≡_};
 ghost use Prim.Native.Nat.{_+_, _<_};
 ghost use lib.ListN.{length, take, drop};
 ghost use Rattle.rules.specs.declared.Check.the-variants.{Passed};
-ghost use Rattle.rules.specs.Record.{value, digits};
+ghost use Rattle.rules.specs.Record.{value};
 ghost use Rattle.curve.specs.Ready.{Ready};
 ghost use Rattle.conversion.specs.Conversions.{channelChecks, eachChannel, numberCheck, codeBits};
+use super::put;
 use curve::decoder::Decoder;
 use rules::Check;
+use rules::Code;
 use rules::Scene;
 use rules::Setting;
 
@@ -35,19 +37,17 @@ pub fn check_numbers(s: Setting, r: &[u8]) -> Check
     check_at(s, r, 20)
 }
 
-// The code of the number at a place of the record, in its two bytes.
-fn put_code_at(s: Setting, d: Decoder, t: &[u64; 128], r: &[u8], at: usize, out: &mut [u8])
+// The code of the number at a place of the record.
+fn code_at(s: Setting, d: Decoder, t: &[u64; 128], r: &[u8], at: usize) -> Code
     requires { ⌜ Ready s d (now t) ⌝ }
     requires { ⌜ at + 7 < length (now r) ⌝ }
     requires { ⌜ numberCheck s (value (take 8 (drop at (now r)))) ≡ Passed ⌝ }
-    requires { ⌜ length (now out) ≡ 2 ⌝ }
-    ensures { λ _. ⌜ now (out .exit) ≡ digits 2 (codeBits s (value (take 8 (drop at (now (r .entry)))))) ⌝ }
+    ensures { λ n. ⌜ n .0 ≡ codeBits s (value (take 8 (drop at (now (r .entry))))) ⌝ }
 {
-    let n = encode::code_of(s, d, t, Scene(records::long_at(r, at)));
-    records::put_word(out, n.0);
+    encode::code_of(s, d, t, Scene(records::long_at(r, at)))
 }
 
-// What is written for a record: the setting, and each channel in its own stretch.
+// What is written for a record: its setting and codes.
 pub fn write_pixel(s: Setting, d: Decoder, t: &[u64; 128], r: &[u8], out: &mut [u8])
     requires { ⌜ Ready s d (now t) ⌝ }
     requires { ⌜ length (now r) ≡ 28 ⌝ }
@@ -55,8 +55,8 @@ pub fn write_pixel(s: Setting, d: Decoder, t: &[u64; 128], r: &[u8], out: &mut [
     requires { ⌜ length (now out) ≡ 10 ⌝ }
     ensures { λ _. ⌜ now (out .exit) ≡ eachChannel 8 2 s (codeBits s) (now (r .entry)) ⌝ }
 {
-    records::put_setting(&mut out[0..4], s);
-    put_code_at(s, d, t, r, 4, &mut out[4..6]);
-    put_code_at(s, d, t, r, 12, &mut out[6..8]);
-    put_code_at(s, d, t, r, 20, &mut out[8..10]);
+    let red = code_at(s, d, t, r, 4);
+    let green = code_at(s, d, t, r, 12);
+    let blue = code_at(s, d, t, r, 20);
+    put::put_codes(out, s, red.0, green.0, blue.0);
 }

@@ -24,7 +24,7 @@ use Rattle.rules.specs.Record.{IsBytes, toBits, ofBits, numberBytes, codeBytes,
 use Rattle.rules.specs.Strip.{recordCheck}
 use Rattle.rules.specs.WayBack.{IsPixel, foundCheck}
 use Rattle.rules.proofs.Records.{FitsRecord, value-small, drop-bytes, read-setting, read-channels, write-read, of-to, to-of, bits-fit, length-record}
-use Rattle.rules.proofs.Settings.{both, code-passed}
+use Rattle.rules.proofs.Settings.{both, code-passed, refused-never}
 use Rattle.curve.specs.Decoded.{decoded}
 use Rattle.matrix.specs.Row.{Small3, Given}
 use Rattle.matrix.proofs.Inverse.{aces-small}
@@ -132,14 +132,7 @@ module _ (r : List ℕ) (h : IsBytes r) (l : length r ≡ 28) where
             only = λ q i m. one-pixel s v q p i (g .0) (numbers-given v q i m ∙ sym (g .1));
             holds = ap (λ (f : Found). pixelRecord s (pixelFound f)) e;
           }
-      go v found.Found.Nothing e k = absurd (clash k)
-        where
-          IsRefused : Check → Type 0
-          IsRefused Passed = ⊥
-          IsRefused (Refused why) = Unit {0}
-
-          clash : foundCheck found.Found.Nothing ≡ Passed → ⊥
-          clash k = subst IsRefused k tt
+      go v found.Found.Nothing e k = refused-never k
 
   -- a pixel gives the record: it passes
   pub given-passes : Valid s → (p : Pixel) → IsPixel s p → given s p ≡ r → recordCheck acesToPixel r ≡ Passed
@@ -151,19 +144,12 @@ module _ (r : List ℕ) (h : IsBytes r) (l : length r ≡ 28) where
   not-both (Without.no-setting n) e = n (passed-valid e .0)
   not-both (Without.no-pixel n) e = let o = passed-only e in n (o .pixel) (o .is-pixel) (o .gives)
 
-  refused-passed : (why : Refusal) → Refused why ≡ Passed → ⊥
-  refused-passed why e = subst IsRefused e tt
-    where
-      IsRefused : Check → Type 0
-      IsRefused Passed = ⊥
-      IsRefused (Refused why) = Unit {0}
-
   pub refused-without : (why : Refusal) → recordCheck acesToPixel r ≡ Refused why → Without r
   refused-without why e = go (settingCheck s) refl
     where
       go : (x : Check) → settingCheck s ≡ x → Without r
-      go (Refused w) f = Without.no-setting (λ v. refused-passed w (sym f ∙ v))
-      go Passed f = Without.no-pixel (λ p i g. refused-passed why (sym e ∙ given-passes f p i g))
+      go (Refused w) f = Without.no-setting (λ v. refused-never (sym f ∙ v))
+      go Passed f = Without.no-pixel (λ p i g. refused-never (sym e ∙ given-passes f p i g))
 
 -- ---- pixel to ACES and back
 module _ (r : List ℕ) (g : Good pixelToAces r) where

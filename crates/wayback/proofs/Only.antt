@@ -10,16 +10,14 @@ use Rattle.whole.proofs.Near.{near-more}
 use Rattle.rules.specs.declared.Pixel.{Pixel}
 use Rattle.rules.specs.declared.Setting.{Setting}
 use Rattle.rules.specs.declared.Triple.{Triple}
-use Rattle.rules.specs.declared.Check.{Check}
-use Rattle.rules.specs.declared.Check.the-variants.{Passed, Refused}
-use Rattle.rules.specs.declared.Refusal.the-variants.{NoPixel}
+use Rattle.rules.specs.declared.Check.the-variants.{Passed}
 use Rattle.rules.specs.declared.Found.{Found}
 use Rattle.rules.specs.declared.Found as found
 use Rattle.rules.specs.Setting.{topOf, Valid}
 use Rattle.rules.specs.Matrix.{matrixOf, IsAces}
 use Rattle.rules.specs.Choice.{choose}
 use Rattle.rules.specs.WayBack.{IsPixel, equal3, tried, pixelWith, foundCheck}
-use Rattle.rules.proofs.Settings.{code-passes}
+use Rattle.rules.proofs.Settings.{code-passes, refused-never}
 use Rattle.rules.proofs.Search as search
 use Rattle.curve.specs.Decoded.{decoded}
 use Rattle.encode.specs.Encoded.{encoded}
@@ -31,13 +29,6 @@ use Rattle.matrix.proofs.Theorems.{decoded-small}
 use Rattle.wayback.specs.Back.{pixelAces, pixelFor}
 use Rattle.wayback.specs.Candidate.{codeFor, candidatePixel, allInReach}
 use Rattle.wayback.proofs.Reach.{given-reached, reached-given}
-
-refused-passed : {A : Type 0} → Refused NoPixel ≡ Passed → A
-refused-passed e = absurd (subst IsRefused e tt)
-  where
-    IsRefused : Check → Type 0
-    IsRefused Passed = ⊥
-    IsRefused (Refused why) = Unit {0}
 
 -- a pixel of the setting that gives the numbers
 abbrev pub PixelGives : Setting → Triple → Pixel → Type 0
@@ -116,4 +107,4 @@ module _ (s : Setting) (v : Valid s) (a : Triple) where
       go (found.Found.Pixel p) g e =
           let h = search.found-gives (decoded s) (matrixOf s) (topOf (s .width)) a p g in
           (reached-given a (reached p h), ap found.Found.Pixel (sym (only-candidate p h)))
-      go found.Found.Nothing g e = refused-passed e
+      go found.Found.Nothing g e = refused-never e

@@ -1,7 +1,6 @@
 -- `write_back` meets its contract: the record of the pixel that is found is written.
 -- Assumes nothing.
 use mathlib.Core.Path.{_≡_, ap, _∙_, subst, sym}
-use denote.Ref.{now}
 use borrow.Author.Needs.{needs}
 use Rattle.rules.specs.declared.Check.the-variants.{Passed}
 use Rattle.rules.specs.declared.Found.{Found}
@@ -20,7 +19,7 @@ pixel-of-requires c κs =
 returns : tie.Need-returns
 returns c =
     let s = c .before .before .before .before .before .before .before .before in
-    c .before .before .put-pixel .ensures
+    c .before .before .put-codes .ensures
     ∙ ap (λ (f : Found). pixelRecord (s .args .s) (pixelFound f)) (c .before .before .before .before .pixel-of .ensures)
     ∙ ap (λ (a : Triple). pixelRecord (s .args .s) (pixelFound (pixelFor (s .args .s) a))) (c .before .before .before .before .before .triple-in .ensures)
 

@@ -1,37 +1,46 @@
--- `write_scene` meets its contract: each stretch is written behind the one before.
+-- `write_scene` meets its contract: the three scene numbers are written.
 -- Assumes nothing.
+use mathlib.Core.Path.{_≡_, ap, _∙_}
 use native.Mathlib.Omega.{arith}
-use denote.Ref.{now}
-use lib.ListN.{length-take, length-drop}
 use borrow.Author.Needs.{needs}
+use denote.Ref.{now}
+use lib.IntN.{ℤ}
+use Prim.Native.Nat.{ℕ}
+use Rattle.whole.proofs.Words.{readBack, read-is}
+use Rattle.rules.specs.declared.Check.the-variants.{Passed}
 use Rattle.rules.specs.Setting.{codeCheck}
-use Rattle.rules.specs.Record.{channelAt}
+use Rattle.rules.specs.Record.{toBits, recordOf}
+use Rattle.curve.specs.Decoded.{decoded}
+use Rattle.curve.proofs.Fit.{decoded-fits}
 use Rattle.conversion.specs.Conversions.{sceneBits}
-use Rattle.conversion.proofs.Channels.{all-pass}
-use Rattle.conversion.proofs.Parts.{four-parts}
+use Rattle.conversion.proofs.Channels.{AllPass, all-pass}
 use Rattle.conversion.proofs.pixel.write_scene.Statement.{statement}
 use Rattle.conversion.proofs.pixel.write_scene.Tie as tie
 
-put-scene-at-requires : tie.Need-put-scene-at-requires
-put-scene-at-requires c κs = (let p = c .before .before .before .before .before .before .before .pre in (p .0, (omega arith, (all-pass 2 (codeCheck (c .before .before .before .before .before .before .before .args .s)) (now (c .before .before .before .before .before .before .before .args .r)) (p .1 .1 .0) .red, simp (length-take, length-drop) (omega arith)))))
+passes : (s : tie.Start) → AllPass 2 (codeCheck (s .args .s)) (now (s .args .r))
+passes s = all-pass 2 (codeCheck (s .args .s)) (now (s .args .r)) (s .pre .1 .1 .0)
 
-put-scene-at-requires-2 : tie.Need-put-scene-at-requires-2
-put-scene-at-requires-2 c κs = (let p = c .before .before .before .before .before .before .before .before .before .before .before .pre in (p .0, (omega arith, (all-pass 2 (codeCheck (c .before .before .before .before .before .before .before .before .before .before .before .args .s)) (now (c .before .before .before .before .before .before .before .before .before .before .before .args .r)) (p .1 .1 .0) .green, simp (length-take, length-drop) (omega arith)))))
+scene-at-requires : tie.Need-scene-at-requires
+scene-at-requires c κs = let s = c .before .before in (s .pre .0, (omega (arith, s .pre .1 .0), passes s .red))
 
-put-scene-at-requires-3 : tie.Need-put-scene-at-requires-3
-put-scene-at-requires-3 c κs = (let p = c .before .before .before .before .before .before .before .before .before .before .before .before .before .before .before .pre in (p .0, (omega arith, (all-pass 2 (codeCheck (c .before .before .before .before .before .before .before .before .before .before .before .before .before .before .before .args .s)) (now (c .before .before .before .before .before .before .before .before .before .before .before .before .before .before .before .args .r)) (p .1 .1 .0) .blue, simp (length-take, length-drop) (omega arith)))))
+scene-at-requires-2 : tie.Need-scene-at-requires-2
+scene-at-requires-2 c κs = let s = c .before .before .before in (s .pre .0, (omega (arith, s .pre .1 .0), passes s .green))
+
+scene-at-requires-3 : tie.Need-scene-at-requires-3
+scene-at-requires-3 c κs = let s = c .before .before .before .before in (s .pre .0, (omega (arith, s .pre .1 .0), passes s .blue))
+
+-- a scene number, as it is read
+bits : (s : tie.Start) {y : ℤ} (n : ℕ) → codeCheck (s .args .s) n ≡ Passed → y ≡ decoded (s .args .s) n → toBits 8 (readBack y) ≡ sceneBits (s .args .s) n
+bits s n h e = ap (toBits 8) (read-is e (decoded-fits (s .args .s) (s .pre .0 .valid) n h))
 
 returns : tie.Need-returns
 returns c =
-    let r = now (c .before .before .before .before .before .before .before .before .before .before .before .before .before .before .before .before .before .before .args .r) in
-    let s = c .before .before .before .before .before .before .before .before .before .before .before .before .before .before .before .before .before .before .args .s in
-    four-parts 8 s (record { red = sceneBits s (channelAt 2 r 0); green = sceneBits s (channelAt 2 r 1); blue = sceneBits s (channelAt 2 r 2) }) (now (c .before .before .before .before .before .before .before .before .before .before .before .before .before .before .before .before .before .before .args .out)) (c .before .before .before .before .before .before .before .before .before .before .before .before .before .before .before .before .before .before .pre .1 .1 .1)
-    (c .before .before .before .before .before .before .before .before .before .before .before .before .before .before .put-setting .ensures)
-    (c .before .before .before .before .before .before .before .before .before .before .put-scene-at .ensures)
-    (c .before .before .before .before .before .before .put-scene-at2 .ensures)
-    (c .before .before .put-scene-at3 .ensures)
+    let b = c .before .before .before .before .before .before .before in
+    let s = b .before .before .before .before .before in
+    let er = bits s _ (passes s .red) (b .before .before .scene-at .ensures) in
+    let eg = bits s _ (passes s .green) (b .before .scene-at2 .ensures) in
+    let eb = bits s _ (passes s .blue) (b .scene-at3 .ensures) in
+    c .before .before .put-numbers .ensures ∙ ap (recordOf 8 (s .args .s)) (λ i. record { red = er i; green = eg i; blue = eb i })
 
 pub write-scene-spec : {M : Type 1} → statement M
-write-scene-spec =
-    tie.close
-    (tie.spec (λ c. search needs) (λ c. search needs) (λ c. search needs) (λ c κs. search needs) (λ c. search needs) (λ c. search needs) (λ c. search needs) put-scene-at-requires (λ c. search needs) (λ c. search needs) (λ c. search needs) put-scene-at-requires-2 (λ c. search needs) (λ c. search needs) (λ c. search needs) put-scene-at-requires-3 (λ c. search needs) returns)
+write-scene-spec = tie.close (tie.spec scene-at-requires scene-at-requires-2 scene-at-requires-3 (λ c κs. search needs) (λ c. search needs) returns)
