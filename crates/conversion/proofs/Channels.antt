@@ -12,7 +12,8 @@ use Rattle.rules.specs.WayBack.{IsPixel}
 use Rattle.rules.specs.Record.{codeBytes, channelAt}
 use Rattle.rules.specs.Refusal.{then}
 use Rattle.rules.proofs.Settings.{both}
-use Rattle.conversion.specs.Conversions.{channelChecks, pixelIn}
+use Rattle.rules.specs.Contents.{pixelIn}
+use Rattle.conversion.specs.Conversions.{channelChecks}
 
 then-refused : (x next : Check) (why : Refusal) → x ≡ Refused why → x ≡ then x next
 then-refused x next why e = subst (λ (y : Check). y ≡ then y next) (sym e) refl

@@ -1,5 +1,4 @@
 pub mod Channels
-mod Parts
 pub mod EveryKind
 pub mod Good
 pub mod Channelwise

@@ -5,14 +5,14 @@ use Prim.Native.Nat.{ℕ}
 use Rattle.rules.specs.declared.Check.{Check}
 use Rattle.rules.specs.declared.Setting.{Setting}
 use Rattle.rules.specs.declared.Pixel.{Pixel}
-use Rattle.rules.specs.declared.Triple.{Triple}
 use Rattle.rules.specs.declared.Found.{Found}
 use Rattle.rules.specs.declared.Found as found
 use Rattle.rules.specs.Refusal.{then}
 use Rattle.rules.specs.Setting.{codeCheck}
 use Rattle.rules.specs.Encoding.{sceneCheck}
 use Rattle.rules.specs.Record.{toBits, ofBits, sizeOf, codeBytes, numberBytes, settingOf, channelAt, recordOf}
-use Rattle.rules.specs.WayBack.{pixel, triple, foundCheck}
+use Rattle.rules.specs.Contents.{pixelIn, pixelRecord, tripleIn, acesRecord}
+use Rattle.rules.specs.WayBack.{pixel, foundCheck}
 use Rattle.rules.specs.Strip.{Conversion}
 use Rattle.curve.specs.Decoded.{decoded}
 use Rattle.encode.specs.Encoded.{encoded}
@@ -54,20 +54,6 @@ codeBits s u = encoded s (ofBits numberBytes u)
 
 abbrev pub sceneToPixel : Conversion
 sceneToPixel = channelwise numberBytes codeBytes numberCheck codeBits
-
--- the pixel of a pixel record, and the record of a pixel
-abbrev pub pixelIn : List ℕ → Pixel
-pixelIn r = pixel (channelAt codeBytes r 0) (channelAt codeBytes r 1) (channelAt codeBytes r 2)
-
-abbrev pub pixelRecord : Setting → Pixel → List ℕ
-pixelRecord s p = recordOf codeBytes s (record { red = p .red .0; green = p .green .0; blue = p .blue .0 })
-
--- the three numbers of an ACES record, and the record of three numbers
-abbrev pub tripleIn : List ℕ → Triple
-tripleIn r = triple (ofBits numberBytes (channelAt numberBytes r 0)) (ofBits numberBytes (channelAt numberBytes r 1)) (ofBits numberBytes (channelAt numberBytes r 2))
-
-abbrev pub acesRecord : Setting → Triple → List ℕ
-acesRecord s a = recordOf numberBytes s (record { red = toBits numberBytes (a .red .0); green = toBits numberBytes (a .green .0); blue = toBits numberBytes (a .blue .0) })
 
 -- "pixel to ACES": a pixel "gives the ACES record that holds this setting and the pixel's three ACES numbers"
 abbrev pub pixelToAces : Conversion

@@ -6,39 +6,11 @@ ghost use Rattle.rules.specs.Setting.{codeCheck};
 ghost use Rattle.rules.specs.WayBack.{foundCheck};
 ghost use Rattle.curve.specs.Ready.{Ready};
 ghost use Rattle.wayback.specs.Back.{pixelAces, pixelFor};
-ghost use Rattle.conversion.specs.Conversions.{channelChecks, pixelIn, pixelRecord, tripleIn, acesRecord, pixelFound};
-use super::put;
+ghost use Rattle.rules.specs.Contents.{pixelIn, pixelRecord, tripleIn, acesRecord};
+ghost use Rattle.conversion.specs.Conversions.{channelChecks, pixelFound};
 use curve::decoder::Decoder;
-use rules::Aces;
 use rules::Check;
-use rules::Code;
-use rules::Pixel;
 use rules::Setting;
-use rules::Triple;
-
-// The pixel of a pixel record.
-pub fn pixel_in(r: &[u8]) -> Pixel
-    requires { ⌜ length (now r) ≡ 10 ⌝ }
-    ensures { λ p. ⌜ p ≡ pixelIn (now (r .entry)) ⌝ }
-{
-    Pixel {
-        red: Code(records::word_at(r, 4)),
-        green: Code(records::word_at(r, 6)),
-        blue: Code(records::word_at(r, 8)),
-    }
-}
-
-// The three numbers of an ACES record.
-fn triple_in(r: &[u8]) -> Triple
-    requires { ⌜ length (now r) ≡ 28 ⌝ }
-    ensures { λ a. ⌜ a ≡ tripleIn (now (r .entry)) ⌝ }
-{
-    Triple {
-        red: Aces(records::long_at(r, 4)),
-        green: Aces(records::long_at(r, 12)),
-        blue: Aces(records::long_at(r, 20)),
-    }
-}
 
 // What is written for a pixel record: its ACES record.
 pub fn write_triple(s: Setting, d: Decoder, t: &[u64; 128], r: &[u8], out: &mut [u8])
@@ -48,8 +20,8 @@ pub fn write_triple(s: Setting, d: Decoder, t: &[u64; 128], r: &[u8], out: &mut 
     requires { ⌜ length (now out) ≡ 28 ⌝ }
     ensures { λ _. ⌜ now (out .exit) ≡ acesRecord s (pixelAces s (pixelIn (now (r .entry)))) ⌝ }
 {
-    let a = wayback::to_aces(s, d, t, pixel_in(r));
-    put::put_numbers(out, s, a.red.0, a.green.0, a.blue.0);
+    let a = wayback::to_aces(s, d, t, records::pixel_in(r));
+    records::put_numbers(out, s, a.red.0, a.green.0, a.blue.0);
 }
 
 // The check of an ACES record: refusal 10.
@@ -58,7 +30,7 @@ pub fn check_triple(s: Setting, d: Decoder, t: &[u64; 128], r: &[u8]) -> Check
     requires { ⌜ length (now r) ≡ 28 ⌝ }
     ensures { λ x. ⌜ x ≡ foundCheck (pixelFor s (tripleIn (now (r .entry)))) ⌝ }
 {
-    wayback::check_aces(s, d, t, triple_in(r))
+    wayback::check_aces(s, d, t, records::triple_in(r))
 }
 
 // What is written for an ACES record that passes: the record of the pixel that gives it.
@@ -69,6 +41,6 @@ pub fn write_back(s: Setting, d: Decoder, t: &[u64; 128], r: &[u8], out: &mut [u
     requires { ⌜ length (now out) ≡ 10 ⌝ }
     ensures { λ _. ⌜ now (out .exit) ≡ pixelRecord s (pixelFound (pixelFor s (tripleIn (now (r .entry))))) ⌝ }
 {
-    let p = wayback::pixel_of(s, d, t, triple_in(r));
-    put::put_codes(out, s, p.red.0, p.green.0, p.blue.0);
+    let p = wayback::pixel_of(s, d, t, records::triple_in(r));
+    records::put_codes(out, s, p.red.0, p.green.0, p.blue.0);
 }

@@ -9,10 +9,8 @@ ghost use Rattle.conversion.specs.Conversions.{conversionOf};
 
 mod aces;
 mod pixel;
-mod put;
 mod scene;
 
-pub use aces::pixel_in;
 use curve::decoder::Decoder;
 use rules::Check;
 use rules::Setting;

@@ -8,7 +8,6 @@ ghost use Rattle.rules.specs.Setting.{codeCheck, Valid};
 ghost use Rattle.curve.specs.Decoded.{decoded};
 ghost use Rattle.curve.specs.Ready.{Ready};
 ghost use Rattle.conversion.specs.Conversions.{channelChecks, eachChannel, sceneBits};
-use super::put;
 use curve::decoder::Decoder;
 use rules::Check;
 use rules::Code;
@@ -21,7 +20,7 @@ fn check_at(s: Setting, r: &[u8], at: usize) -> Check
     requires { ⌜ at + 1 < length (now r) ⌝ }
     ensures { λ x. ⌜ x ≡ codeCheck s (value (take 2 (drop at (now (r .entry))))) ⌝ }
 {
-    setting::check_code(s, Code(records::word_at(r, at)))
+    setting::check_code(s, Code(numbers::word_at(r, at)))
 }
 
 // The checks of the three codes of a record.
@@ -48,7 +47,7 @@ fn scene_at(s: Setting, d: Decoder, t: &[u64; 128], r: &[u8], at: usize) -> Scen
     requires { ⌜ codeCheck s (value (take 2 (drop at (now r)))) ≡ Passed ⌝ }
     ensures { λ y. ⌜ y .0 ≡ decoded s (value (take 2 (drop at (now (r .entry))))) ⌝ }
 {
-    d.scene(t, records::word_at(r, at) as u64)
+    d.scene(t, numbers::word_at(r, at) as u64)
 }
 
 // What is written for a record: its setting and scene numbers.
@@ -62,5 +61,5 @@ pub fn write_scene(s: Setting, d: Decoder, t: &[u64; 128], r: &[u8], out: &mut [
     let red = scene_at(s, d, t, r, 4);
     let green = scene_at(s, d, t, r, 6);
     let blue = scene_at(s, d, t, r, 8);
-    put::put_numbers(out, s, red.0, green.0, blue.0);
+    records::put_numbers(out, s, red.0, green.0, blue.0);
 }

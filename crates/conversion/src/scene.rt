@@ -6,7 +6,6 @@ ghost use Rattle.rules.specs.declared.Check.the-variants.{Passed};
 ghost use Rattle.rules.specs.Record.{value};
 ghost use Rattle.curve.specs.Ready.{Ready};
 ghost use Rattle.conversion.specs.Conversions.{channelChecks, eachChannel, numberCheck, codeBits};
-use super::put;
 use curve::decoder::Decoder;
 use rules::Check;
 use rules::Code;
@@ -18,7 +17,7 @@ fn check_at(s: Setting, r: &[u8], at: usize) -> Check
     requires { ⌜ at + 7 < length (now r) ⌝ }
     ensures { λ x. ⌜ x ≡ numberCheck s (value (take 8 (drop at (now (r .entry))))) ⌝ }
 {
-    encode::check_scene(Scene(records::long_at(r, at)))
+    encode::check_scene(Scene(numbers::long_at(r, at)))
 }
 
 // The checks of the three numbers of a record.
@@ -44,7 +43,7 @@ fn code_at(s: Setting, d: Decoder, t: &[u64; 128], r: &[u8], at: usize) -> Code
     requires { ⌜ numberCheck s (value (take 8 (drop at (now r)))) ≡ Passed ⌝ }
     ensures { λ n. ⌜ n .0 ≡ codeBits s (value (take 8 (drop at (now (r .entry))))) ⌝ }
 {
-    encode::code_of(s, d, t, Scene(records::long_at(r, at)))
+    encode::code_of(s, d, t, Scene(numbers::long_at(r, at)))
 }
 
 // What is written for a record: its setting and codes.
@@ -58,5 +57,5 @@ pub fn write_pixel(s: Setting, d: Decoder, t: &[u64; 128], r: &[u8], out: &mut [
     let red = code_at(s, d, t, r, 4);
     let green = code_at(s, d, t, r, 12);
     let blue = code_at(s, d, t, r, 20);
-    put::put_codes(out, s, red.0, green.0, blue.0);
+    records::put_codes(out, s, red.0, green.0, blue.0);
 }

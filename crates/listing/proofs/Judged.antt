@@ -9,7 +9,8 @@ use Rattle.rules.specs.declared.Triple.{Triple}
 use Rattle.rules.specs.Setting.{settingCheck}
 use Rattle.rules.specs.Record.{settingOf}
 use Rattle.wayback.specs.Back.{pixelAces}
-use Rattle.conversion.specs.Conversions.{pixelToAces, pixelIn}
+use Rattle.rules.specs.Contents.{pixelIn}
+use Rattle.conversion.specs.Conversions.{pixelToAces}
 use Rattle.listing.specs.declared.Outcome.the-variants.{Aces, Refused}
 use Rattle.listing.specs.Line.{outcomeOf}
 

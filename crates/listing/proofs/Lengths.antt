@@ -23,7 +23,8 @@ use Rattle.matrix.specs.Row.{Given}
 use Rattle.matrix.proofs.Inverse.{aces-small}
 use Rattle.matrix.proofs.Theorems.{decoded-small}
 use Rattle.wayback.specs.Back.{pixelAces}
-use Rattle.conversion.specs.Conversions.{pixelToAces, pixelIn}
+use Rattle.rules.specs.Contents.{pixelIn}
+use Rattle.conversion.specs.Conversions.{pixelToAces}
 use Rattle.conversion.proofs.Channels.{all-pass}
 use Rattle.listing.specs.declared.Outcome.the-variants.{Aces, Refused}
 use Rattle.listing.specs.Decimal.{decimal, signed}

@@ -14,7 +14,8 @@ use Rattle.rules.specs.Refusal.{numberOf}
 use Rattle.rules.specs.Record.{codeBytes, sizeOf, settingOf}
 use Rattle.rules.specs.Strip.{recordCheck, records}
 use Rattle.wayback.specs.Back.{pixelAces}
-use Rattle.conversion.specs.Conversions.{pixelToAces, pixelIn}
+use Rattle.rules.specs.Contents.{pixelIn}
+use Rattle.conversion.specs.Conversions.{pixelToAces}
 use Rattle.listing.specs.declared.Outcome.{Outcome}
 use Rattle.listing.specs.declared.Outcome.the-variants.{Aces, Refused}
 use Rattle.listing.specs.Decimal.{decimal, signed}

@@ -39,7 +39,7 @@ fn judge_valid(s: Setting, r: &[u8]) -> Outcome
     let t = table::table(s);
     match conversion::check_inner(Kind::PixelToAces, s, d, &t, r) {
         Check::Refused(cause) => Outcome::Refused(cause),
-        Check::Passed => Outcome::Aces(wayback::to_aces(s, d, &t, conversion::pixel_in(r))),
+        Check::Passed => Outcome::Aces(wayback::to_aces(s, d, &t, records::pixel_in(r))),
     }
 }
 

@@ -31,7 +31,8 @@ use Rattle.matrix.proofs.Inverse.{aces-small}
 use Rattle.matrix.proofs.Theorems.{decoded-small}
 use Rattle.wayback.specs.Back.{pixelAces, pixelFor}
 use Rattle.wayback.proofs.Theorems.{found-gives, own-found, one-pixel}
-use Rattle.conversion.specs.Conversions.{channelChecks, pixelIn, pixelRecord, tripleIn, acesRecord, pixelFound, pixelToAces, acesToPixel}
+use Rattle.rules.specs.Contents.{pixelIn, pixelRecord, tripleIn, acesRecord}
+use Rattle.conversion.specs.Conversions.{channelChecks, pixelFound, pixelToAces, acesToPixel}
 use Rattle.conversion.proofs.Channels.{codes-pixel}
 use Rattle.conversion.proofs.Good.{Good}
 use Rattle.promise.specs.Words.{given, HoldsPixel, Without, OnlyPixel}

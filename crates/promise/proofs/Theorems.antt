@@ -25,7 +25,8 @@ use Rattle.rules.proofs.Settings.{code-passed}
 use Rattle.rules.proofs.Records.{length-record}
 use Rattle.curve.specs.Decoded.{decoded}
 use Rattle.matrix.proofs.Theorems.{aces-two-units}
-use Rattle.conversion.specs.Conversions.{pixelIn, pixelToAces, acesToPixel}
+use Rattle.rules.specs.Contents.{pixelIn}
+use Rattle.conversion.specs.Conversions.{pixelToAces, acesToPixel}
 use Rattle.conversion.proofs.Good.{Good}
 use Rattle.strip.proofs.FirstPass.{scan-passes, counted}
 use Rattle.strip.proofs.First.{FirstRefused, all-done, first-answered, answered-first}

@@ -18,7 +18,8 @@ use Rattle.rules.specs.Record.{IsBytes, numberBytes, ofBits, settingOf, channel
 use Rattle.rules.specs.Strip.{records, recordAt, written}
 use Rattle.rules.specs.WayBack.{IsPixel}
 use Rattle.wayback.specs.Back.{pixelAces}
-use Rattle.conversion.specs.Conversions.{pixelIn, pixelRecord, acesRecord, pixelToAces}
+use Rattle.rules.specs.Contents.{pixelIn, pixelRecord, acesRecord}
+use Rattle.conversion.specs.Conversions.{pixelToAces}
 
 -- "It gives the ACES record that holds this setting and the pixel's three ACES numbers."
 abbrev pub given : Setting → Pixel → List ℕ

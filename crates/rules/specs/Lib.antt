@@ -11,4 +11,5 @@ pub mod Encoding
 pub mod Matrix
 pub mod ExactRow
 pub mod WayBack
+pub mod Contents
 pub mod Float

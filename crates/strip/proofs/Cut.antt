@@ -9,7 +9,7 @@ use native.Mathlib.Omega.{arith}
 use lib.ListN.{length, take, drop, length-append, length-take, length-drop}
 use lib.Seq.{drop-drop}
 use Rattle.rules.specs.Strip.{records, written}
-use Rattle.records.proofs.Stretch.{span}
+use Rattle.numbers.proofs.Stretch.{span}
 
 -- the k-th record, `&input[k * size..k * size + size]`
 abbrev pub cut : ℕ → ℕ → List ℕ → List ℕ

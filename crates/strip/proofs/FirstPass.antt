@@ -17,7 +17,7 @@ use Rattle.rules.specs.Refusal.{then}
 use Rattle.rules.specs.Setting.{settingCheck}
 use Rattle.rules.specs.Record.{settingOf}
 use Rattle.rules.specs.Strip.{Conversion, recordCheck, records, orNext, scan, scanOf}
-use Rattle.records.proofs.Stretch.{span}
+use Rattle.numbers.proofs.Stretch.{span}
 use Rattle.strip.proofs.Cut.{cut, rest, rest-start, rest-next, rest-end}
 
 -- a record's check, where its setting's answers x

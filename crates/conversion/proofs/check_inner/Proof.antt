@@ -8,7 +8,8 @@ use Rattle.rules.specs.Setting.{codeCheck}
 use Rattle.rules.specs.WayBack.{foundCheck}
 use Rattle.wayback.specs.Back.{pixelFor}
 use Rattle.conversion.specs.declared.Kind.{Kind}
-use Rattle.conversion.specs.Conversions.{channelChecks, numberCheck, tripleIn, conversionOf}
+use Rattle.rules.specs.Contents.{tripleIn}
+use Rattle.conversion.specs.Conversions.{channelChecks, numberCheck, conversionOf}
 use Rattle.conversion.proofs.check_inner.Statement.{statement}
 use Rattle.conversion.proofs.check_inner.Tie as tie
 

@@ -8,7 +8,8 @@ use Rattle.rules.specs.Setting.{codeCheck}
 use Rattle.rules.specs.WayBack.{foundCheck}
 use Rattle.wayback.specs.Back.{pixelAces, pixelFor}
 use Rattle.conversion.specs.declared.Kind.{Kind}
-use Rattle.conversion.specs.Conversions.{channelChecks, eachChannel, sceneBits, codeBits, numberCheck, pixelIn, tripleIn, pixelRecord, acesRecord, pixelFound, conversionOf}
+use Rattle.rules.specs.Contents.{pixelIn, tripleIn, pixelRecord, acesRecord}
+use Rattle.conversion.specs.Conversions.{channelChecks, eachChannel, sceneBits, codeBits, numberCheck, pixelFound, conversionOf}
 use Rattle.conversion.proofs.write_record.Statement.{statement}
 use Rattle.conversion.proofs.write_record.Tie as tie
 

@@ -10,7 +10,8 @@ use Rattle.rules.specs.Record.{settingOf}
 use Rattle.rules.specs.Setting.{settingCheck}
 use Rattle.rules.specs.WayBack.{IsPixel}
 use Rattle.wayback.specs.Back.{pixelAces}
-use Rattle.conversion.specs.Conversions.{pixelToAces, pixelIn}
+use Rattle.rules.specs.Contents.{pixelIn}
+use Rattle.conversion.specs.Conversions.{pixelToAces}
 use Rattle.conversion.proofs.Channels.{codes-pixel}
 use Rattle.listing.proofs.Judged.{code-refused, all-passed}
 use Rattle.listing.proofs.judge_valid.Statement.{statement}

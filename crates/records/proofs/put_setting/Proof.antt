@@ -5,7 +5,8 @@ use mathlib.Core.List.{[], _∷_}
 use Prim.Native.Nat.{_/_, _%_}
 use native.Mathlib.Omega.{arith}
 use denote.Ref.{now}
-use Rattle.records.proofs.Bytes.{stored, setting-bytes}
+use Rattle.numbers.proofs.Bytes.{stored}
+use Rattle.records.proofs.Parts.{setting-bytes}
 use borrow.Author.Needs.{needs}
 use Rattle.records.proofs.put_setting.Statement.{statement}
 use Rattle.records.proofs.put_setting.Tie as tie

@@ -14,7 +14,7 @@ use Rattle.rules.specs.Record.{settingOf}
 use Rattle.rules.specs.Setting.{Valid, settingCheck}
 use Rattle.rules.specs.Strip.{Conversion}
 use Rattle.rules.proofs.Settings.{both}
-use Rattle.records.proofs.Stretch.{pasted}
+use Rattle.numbers.proofs.Stretch.{pasted}
 use Rattle.curve.specs.Ready.{Ready}
 use Rattle.conversion.specs.Conversions.{conversionOf}
 use Rattle.conversion.proofs.EveryKind.{from-large, kind-long}

@@ -7,7 +7,8 @@ use Rattle.rules.specs.declared.Found.{Found}
 use Rattle.rules.specs.declared.Triple.{Triple}
 use Rattle.rules.specs.WayBack.{foundCheck}
 use Rattle.wayback.specs.Back.{pixelFor}
-use Rattle.conversion.specs.Conversions.{pixelRecord, pixelFound}
+use Rattle.rules.specs.Contents.{pixelRecord}
+use Rattle.conversion.specs.Conversions.{pixelFound}
 use Rattle.conversion.proofs.aces.write_back.Statement.{statement}
 use Rattle.conversion.proofs.aces.write_back.Tie as tie
 

@@ -11,7 +11,7 @@ use Rattle.rules.specs.Record.{toBits, recordOf}
 use Rattle.rules.specs.Setting.{codeCheck}
 use Rattle.rules.specs.WayBack.{IsPixel}
 use Rattle.wayback.specs.Back.{pixelAces}
-use Rattle.conversion.specs.Conversions.{acesRecord}
+use Rattle.rules.specs.Contents.{acesRecord}
 use Rattle.conversion.proofs.Channels.{codes-pixel}
 use Rattle.conversion.proofs.aces.write_triple.Statement.{statement}
 use Rattle.conversion.proofs.aces.write_triple.Tie as tie

@@ -1,0 +1,21 @@
+-- `put_codes` meets its contract: each stretch is written behind the one before.
+-- Assumes nothing.
+use borrow.Author.Needs.{needs}
+use denote.Ref.{now}
+use Rattle.records.proofs.Parts.{four-parts}
+use Rattle.records.proofs.put_codes.Statement.{statement}
+use Rattle.records.proofs.put_codes.Tie as tie
+
+returns : tie.Need-returns
+returns c =
+    let b = c .before .before in
+    let g = b .before .before .before .before in
+    let r = g .before .before .before .before in
+    let p = r .before .before .before .before in
+    let s = p .before .before .before in
+    four-parts 2 (s .args .s) _ (now (s .args .out)) (s .pre) (p .put-setting .ensures) (r .put-word .ensures) (g .put-word2 .ensures) (b .put-word3 .ensures)
+
+pub put-codes-spec : {M : Type 1} → statement M
+put-codes-spec =
+    tie.close
+    (tie.spec (λ c. search needs) (λ c. search needs) (λ c. search needs) (λ c κs. search needs) (λ c. search needs) (λ c. search needs) (λ c. search needs) (λ c κs. search needs) (λ c. search needs) (λ c. search needs) (λ c. search needs) (λ c κs. search needs) (λ c. search needs) (λ c. search needs) (λ c. search needs) (λ c κs. search needs) (λ c. search needs) returns)
