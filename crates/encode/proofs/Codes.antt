@@ -24,7 +24,7 @@ use Rattle.curve.proofs.Program.{top-small}
 use Rattle.curve.proofs.Fit.{fits}
 use Rattle.curve.proofs.Theorems.{raw-rises, raw-apart}
 use Rattle.encode.specs.Encoded.{encoded}
-use Rattle.encode.specs.Search.{Rising}
+use Rattle.search.specs.Search.{Rising}
 use Rattle.encode.proofs.HalfWays.{Within, within-nearest}
 
 -- a scene number that passes

@@ -14,7 +14,7 @@ use Rattle.whole.proofs.Near.{Near}
 use Rattle.rules.specs.Encoding.{distance, IsNearest}
 use Rattle.curve.specs.Gap.{gap}
 use Rattle.curve.specs.Decoded.{offset}
-use Rattle.encode.specs.Search.{Found}
+use Rattle.search.specs.Search.{Found}
 
 -- ---- two numbers p and q with the offset, and half way between them
 

@@ -1,4 +1,3 @@
-mod Interval
 mod HalfWays
 mod Codes
 mod Shifted

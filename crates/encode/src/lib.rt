@@ -6,9 +6,6 @@ ghost use Rattle.rules.specs.Encoding.{sceneCheck};
 ghost use Rattle.curve.specs.Ready.{Ready};
 ghost use Rattle.encode.specs.Encoded.{encoded};
 ghost use Rattle.encode.specs.Answer.{codeAfter, encodeAnswer};
-
-mod search;
-
 use curve::decoder::Decoder;
 use rules::Check;
 use rules::Code;

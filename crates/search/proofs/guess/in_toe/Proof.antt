@@ -4,8 +4,8 @@ use Prim.Native.Nat.{ℕ, _*_, _%_, _^_, _<_}
 use native.Mathlib.Omega.{arith}
 use borrow.Author.Needs.{needs}
 use Rattle.whole.proofs.Sizes.{bits}
-use Rattle.encode.proofs.search.in_toe.Statement.{statement}
-use Rattle.encode.proofs.search.in_toe.Tie as tie
+use Rattle.search.proofs.guess.in_toe.Statement.{statement}
+use Rattle.search.proofs.guess.in_toe.Tie as tie
 
 rise : {y : ℕ} → y < 2 ^ 21 → (over : ℕ) → y * (over % 1099511627776) < 2 ^ 61
 rise h over = bits 21 40 h (omega arith)

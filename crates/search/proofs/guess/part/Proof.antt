@@ -4,8 +4,8 @@ use Prim.Native.Nat.{ℕ, _*_, _/_, _^_, _≤_, _<_}
 use native.Mathlib.Nat.{mul-le-mul-left}
 use native.Mathlib.Omega.{arith}
 use Rattle.whole.proofs.Sizes.{bits}
-use Rattle.encode.proofs.search.part.Statement.{statement}
-use Rattle.encode.proofs.search.part.Tie as tie
+use Rattle.search.proofs.guess.part.Statement.{statement}
+use Rattle.search.proofs.guess.part.Tie as tie
 
 fits : {a b : ℕ} → a < 2 ^ 16 → b ≤ 2 ^ 16 → a * b < 2 ^ 33
 fits h g = bits 16 17 h (omega arith)

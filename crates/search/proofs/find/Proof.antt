@@ -8,9 +8,9 @@ use borrow.Author.Tests.{leb-true}
 use denote.Ref.{now}
 use Rattle.curve.specs.Decoded.{rawBy}
 use Rattle.curve.proofs.Program.{raw-small}
-use Rattle.encode.proofs.Interval.{near-found}
-use Rattle.encode.proofs.search.find.Statement.{statement}
-use Rattle.encode.proofs.search.find.Tie as tie
+use Rattle.search.proofs.Interval.{near-found}
+use Rattle.search.proofs.find.Statement.{statement}
+use Rattle.search.proofs.find.Tie as tie
 
 -- the guess is a code
 in-range : (c : tie.After-least) → c .least .result ≤ c .before .before .args .top

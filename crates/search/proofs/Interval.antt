@@ -4,7 +4,7 @@ use mathlib.Core.Path.{_≡_, subst}
 use Prim.Native.Nat.{ℕ, _+_, _-_, _*_, _/_, _%_, _^_, _≤_, _<_, min}
 use native.Mathlib.Omega.{arith}
 use Rattle.curve.specs.Gap.{gap}
-use Rattle.encode.specs.Search.{Found}
+use Rattle.search.specs.Search.{Found}
 
 -- y is above the number of the code low, unless that is 0, and at most the number of the code high, unless that is past top; below and above
 -- are these numbers

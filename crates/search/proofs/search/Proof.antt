@@ -7,9 +7,9 @@ use native.Mathlib.Omega.{arith}
 use borrow.Author.Needs.{needs}
 use Rattle.curve.specs.Decoded.{rawBy}
 use Rattle.curve.proofs.Program.{raw-small}
-use Rattle.encode.proofs.Interval.{Between, Next, begin, raise, lower, end-top, end-low, end-high, first-try, next-up, next-down}
-use Rattle.encode.proofs.search.search.Statement.{statement}
-use Rattle.encode.proofs.search.search.Tie as tie
+use Rattle.search.proofs.Interval.{Between, Next, begin, raise, lower, end-top, end-low, end-high, first-try, next-up, next-down}
+use Rattle.search.proofs.search.Statement.{statement}
+use Rattle.search.proofs.search.Tie as tie
 
 abbrev Inv-loop : tie.InvT-loop
 Inv-loop d t top y first low₀ high₀ low-number₀ high-number₀ step₀ middle₀ low high low-number high-number step middle =
