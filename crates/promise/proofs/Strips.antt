@@ -17,7 +17,7 @@ use Rattle.rules.specs.Strip.{Conversion, recordCheck, records, recordAt, writt
 use Rattle.rules.proofs.Records.{take-bytes, drop-bytes, length-record}
 use Rattle.conversion.specs.Conversions.{channelChecks, pixelToAces}
 use Rattle.conversion.proofs.Good.{Good}
-use Rattle.strip.proofs.Cut.{length-written}
+use Rattle.passes.proofs.Cut.{length-written}
 use Rattle.strip.proofs.First.{at-start, at-later, all-done}
 use Rattle.strip.proofs.Back.{Whole}
 use Rattle.promise.specs.Words.{Accepted, HoldsPixel, made}

@@ -28,7 +28,7 @@ use Rattle.matrix.proofs.Theorems.{aces-two-units}
 use Rattle.rules.specs.Contents.{pixelIn}
 use Rattle.conversion.specs.Conversions.{pixelToAces, acesToPixel}
 use Rattle.conversion.proofs.Good.{Good}
-use Rattle.strip.proofs.FirstPass.{scan-passes, counted}
+use Rattle.passes.proofs.FirstPass.{scan-passes, counted}
 use Rattle.strip.proofs.First.{FirstRefused, all-done, first-answered, answered-first}
 use Rattle.strip.proofs.Join.{whole-answer}
 use Rattle.strip.proofs.Back as back

@@ -3,6 +3,7 @@ ghost use mathlib.Core.Path.{_≡_};
 ghost use Rattle.rules.specs.Choice.{member};
 ghost use Rattle.rules.specs.Refusal.{numberOf};
 ghost use Rattle.rules.specs.Setting.{curves, widthsOf, eisOf, topOf, settingCheck, codeCheck, Valid};
+ghost use Rattle.setting.specs.Same.{sameSetting};
 use rules::Check;
 use rules::Code;
 use rules::Refusal;
@@ -114,4 +115,17 @@ pub fn check_code(s: Setting, n: Code) -> Check
     } else {
         Check::Refused(Refusal::CodeAboveTop)
     }
+}
+
+// Whether two settings are the same.
+pub fn same_setting(a: Setting, b: Setting) -> bool
+    ensures { λ r. ⌜ r ≡ sameSetting a b ⌝ }
+{
+    if a.curve != b.curve {
+        return false;
+    }
+    if a.width != b.width {
+        return false;
+    }
+    a.ei == b.ei
 }

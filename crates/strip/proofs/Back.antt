@@ -21,8 +21,8 @@ use Rattle.rules.specs.Record.{IsBytes}
 use Rattle.rules.specs.Strip.{Conversion, recordCheck, records, written, scan, scanOf, answerOf, outputAfter}
 use Rattle.rules.proofs.Records.{take-bytes, drop-bytes}
 use Rattle.conversion.proofs.Good.{Good}
-use Rattle.strip.proofs.Cut.{length-written}
-use Rattle.strip.proofs.FirstPass.{go-on, never, counted}
+use Rattle.passes.proofs.Cut.{length-written}
+use Rattle.passes.proofs.FirstPass.{go-on, never, counted}
 use Rattle.strip.proofs.Join.{whole-answer}
 
 -- each of the records is one

@@ -12,7 +12,7 @@ use Rattle.rules.specs.declared.Answer.the-variants.{Done, Refused}
 use Rattle.rules.specs.declared.Refusal.the-variants.{PartialRecord, ShortOutput}
 use Rattle.rules.specs.Strip.{Conversion, records, written, scan, scanOf, answerOf, outputAfter, Converts}
 use Rattle.strip.specs.Writable.{writable}
-use Rattle.strip.proofs.FirstPass.{counted}
+use Rattle.passes.proofs.FirstPass.{counted}
 
 module _ (c : Conversion) (input output : List ℕ) where
   pub not-whole : (length input % c .from ≡ 0 → ⊥) → Converts c input output (Refused PartialRecord 0) output

@@ -14,7 +14,7 @@ use Rattle.rules.specs.declared.Check.{Check}
 use Rattle.rules.specs.declared.Check as check
 use Rattle.rules.specs.Strip.{Conversion, recordCheck, records, written, orNext, scan, scanOf, answerOf, outputAfter, Converts}
 use Rattle.strip.specs.Join.{moved, followed}
-use Rattle.strip.proofs.Cut.{written-append}
+use Rattle.passes.proofs.Cut.{written-append}
 
 -- ---- the records of two parts
 empty : (a : List ℕ) → length a ≡ 0 → a ≡ []

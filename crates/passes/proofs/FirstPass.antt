@@ -18,7 +18,7 @@ use Rattle.rules.specs.Setting.{settingCheck}
 use Rattle.rules.specs.Record.{settingOf}
 use Rattle.rules.specs.Strip.{Conversion, recordCheck, records, orNext, scan, scanOf}
 use Rattle.numbers.proofs.Stretch.{span}
-use Rattle.strip.proofs.Cut.{cut, rest, rest-start, rest-next, rest-end}
+use Rattle.passes.proofs.Cut.{cut, rest, rest-start, rest-next, rest-end}
 
 -- a record's check, where its setting's answers x
 pub setting-decides : (c : Conversion) (r : List ℕ) {x : Check} → settingCheck (settingOf r) ≡ x → recordCheck c r ≡ then x (c .inner r)

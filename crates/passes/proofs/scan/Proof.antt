@@ -13,13 +13,15 @@ use borrow.Author.Tests.{not-false}
 use Rattle.rules.specs.Record.{settingOf}
 use Rattle.rules.specs.Setting.{settingCheck}
 use Rattle.rules.specs.Strip.{Conversion, recordCheck}
+use Rattle.setting.proofs.Same.{same-is}
 use Rattle.curve.specs.Ready.{Ready}
 use Rattle.conversion.specs.Conversions.{conversionOf}
 use Rattle.conversion.proofs.EveryKind.{from-large}
-use Rattle.strip.proofs.Cut.{cut, cut-at, length-cut, room-at}
-use Rattle.strip.proofs.FirstPass.{Scanned, setting-decides, scanned-start, scanned-more, scanned-stop, scanned-end}
-use Rattle.strip.proofs.scan.Statement.{statement}
-use Rattle.strip.proofs.scan.Tie as tie
+use Rattle.passes.proofs.Begin.{first-valid}
+use Rattle.passes.proofs.Cut.{cut, cut-at, length-cut, room-at}
+use Rattle.passes.proofs.FirstPass.{Scanned, setting-decides, scanned-start, scanned-more, scanned-stop, scanned-end}
+use Rattle.passes.proofs.scan.Statement.{statement}
+use Rattle.passes.proofs.scan.Tie as tie
 
 abbrev Inv-loop : tie.InvT-loop
 Inv-loop k input n size s₀ d₀ t₀ i₀ s d t i = Scanned (conversionOf k) n input i × Ready s d t
@@ -29,29 +31,29 @@ abbrev μ-loop : tie.MeasureT-loop
 
 -- ---- at a record
 abbrev conversion : (c : tie.In-loop Inv-loop μ-loop) → Conversion
-conversion c = conversionOf (c .before .before .before .before .before .before .before .args .k)
+conversion c = conversionOf (c .before .before .before .before .before .before .args .k)
 
 abbrev strip : (c : tie.In-loop Inv-loop μ-loop) → List ℕ
-strip c = now (c .before .before .before .before .before .before .before .args .input)
+strip c = now (c .before .before .before .before .before .before .args .input)
 
 abbrev here : (c : tie.In-loop Inv-loop μ-loop) → List ℕ
 here c = cut (conversion c .from) (c .before .loop .i) (strip c)
 
 -- the same, as the code cuts it out
-cut-is : (c : tie.In-loop Inv-loop μ-loop) → cut (c .before .before .before .before .before .size-from .result) (c .before .loop .i) (strip c) ≡ here c
-cut-is c = cut-at (c .before .loop .i) (strip c) (c .before .before .before .before .before .size-from .ensures .0)
+cut-is : (c : tie.In-loop Inv-loop μ-loop) → cut (c .before .before .before .before .size-from .result) (c .before .loop .i) (strip c) ≡ here c
+cut-is c = cut-at (c .before .loop .i) (strip c) (c .before .before .before .before .size-from .ensures .0)
 
-room : (c : tie.In-loop Inv-loop μ-loop) → c .before .loop .i * c .before .before .before .before .before .size-from .result + c .before .before .before .before .before .size-from .result ≤ length (strip c)
-room c = room-at _ _ _ _ _ (c .before .before .before .before .before .size-from .ensures .0) (c .loop-test .taken) (c .before .before .before .before .before .before .before .pre)
+room : (c : tie.In-loop Inv-loop μ-loop) → c .before .loop .i * c .before .before .before .before .size-from .result + c .before .before .before .before .size-from .result ≤ length (strip c)
+room c = room-at _ _ _ _ _ (c .before .before .before .before .size-from .ensures .0) (c .loop-test .taken) (c .before .before .before .before .before .before .pre)
 
-long : (c : tie.In-loop Inv-loop μ-loop) → length (cut (c .before .before .before .before .before .size-from .result) (c .before .loop .i) (strip c)) ≡ conversion c .from
-long c = length-cut (c .before .loop .i) (strip c) (c .before .before .before .before .before .size-from .ensures .0) (room c)
+long : (c : tie.In-loop Inv-loop μ-loop) → length (cut (c .before .before .before .before .size-from .result) (c .before .loop .i) (strip c)) ≡ conversion c .from
+long c = length-cut (c .before .loop .i) (strip c) (c .before .before .before .before .size-from .ensures .0) (room c)
 
 found-is : (c : tie.After-setting-of Inv-loop μ-loop) → c .setting-of .result ≡ settingOf (here (c .before .before))
 found-is c = c .setting-of .ensures ∙ ap settingOf (cut-is (c .before .before))
 
 setting-of-requires : tie.Need-setting-of-requires Inv-loop μ-loop
-setting-of-requires c κs = rw (long (c .before)) (from-large (c .before .before .before .before .before .before .before .before .args .k))
+setting-of-requires c κs = rw (long (c .before)) (from-large (c .before .before .before .before .before .before .before .args .k))
 
 -- ---- the setting is refused
 returns : tie.Need-returns Inv-loop μ-loop
@@ -65,7 +67,7 @@ kept : (c : tie.Joined1 Inv-loop μ-loop) → Ready (c .if1 .s) (c .if1 .d) (c .
 kept c =
     ⊎-elim
     (λ w. (rw (w .6, w .7, w .8) (record { valid = sym (w .1 .ensures) ∙ w .3 .given .1; decoder = w .4 .ensures; table = w .5 .ensures }), w .6 ∙ found-is (c .before .before)))
-    (λ w. (rw (w .1, w .2, w .3) (c .before .before .before .before .before .loop .inv .1), w .1 ∙ c .before .same-setting .ensures .same (not-false _ (w .0 .left)) ∙ found-is (c .before .before)))
+    (λ w. (rw (w .1, w .2, w .3) (c .before .before .before .before .before .loop .inv .1), w .1 ∙ same-is _ _ (sym (c .before .same-setting .ensures) ∙ not-false _ (w .0 .left)) ∙ found-is (c .before .before)))
     (c .if1 .came)
 
 check-inner-requires : tie.Need-check-inner-requires Inv-loop μ-loop
@@ -100,10 +102,9 @@ scan-spec =
     Inv-loop
     μ-loop
     (λ c κs. search needs)
+    (λ c κs. first-valid)
     (λ c κs. search needs)
-    (λ c κs. search needs)
-    (λ c κs. search needs)
-    (λ c. (scanned-start _ _ _, record { valid = c .before .before .first-setting .ensures; decoder = c .before .new .ensures; table = c .table .ensures }))
+    (λ c. (scanned-start _ _ _, record { valid = first-valid; decoder = c .before .new .ensures; table = c .table .ensures }))
     (λ c. omega (arith, room c))
     (λ c. omega (arith, room c))
     (λ c. omega arith)
@@ -125,7 +126,7 @@ scan-spec =
     (λ c. search needs)
     returns-2
     (λ c. search needs)
-    (λ c. omega (arith, c .before .before .before .before .before .before .before .before .before .loop-test .taken, c .before .before .before .before .before .before .before .before .before .before .before .before .before .before .before .before .fits .n))
+    (λ c. omega (arith, c .before .before .before .before .before .before .before .before .before .loop-test .taken, c .before .before .before .before .before .before .before .before .before .before .before .before .before .before .before .fits .n))
     (λ c. omega arith)
     loop-again
     returns-3)

@@ -1,0 +1,4 @@
+pub mod Begin
+pub mod Cut
+pub mod FirstPass
+pub mod SecondPass
