@@ -7,7 +7,7 @@ use native.Mathlib.Nat.{le-refl, le-of-eq, le-of-lt, le-of-suc-le-suc, lt-of-not
 use native.Mathlib.Omega.{arith}
 use borrow.Author.Tests.{ltb-true, ltb-false}
 use lib.Dec.{ltb, lit<}
-use lib.IntN.{ℤ, pos, negsuc, natAbs, subℕ, _-ℤ_}
+use lib.IntN.{ℤ, natAbs, subℕ, _-ℤ_}
 use Rattle.whole.specs.Parts.{up, dn}
 use Rattle.whole.proofs.Reflect.{abs-is, at, sub, dif, one-zero, sub-dif}
 use Rattle.whole.proofs.Near.{Near}

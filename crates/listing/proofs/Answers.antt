@@ -2,18 +2,18 @@
 -- Assumes nothing.
 use mathlib.Core.Bool.{Bool, true, false}
 use mathlib.Core.Path.{_≡_, refl}
-use mathlib.Core.List.{List, [], _++_}
-use Prim.Native.Nat.{ℕ, _+_, _-_, _*_, _/_, _%_, _^_, _≤_, _<_}
+use mathlib.Core.List.{List, _++_}
+use Prim.Native.Nat.{ℕ, _+_, _*_, _/_, _%_, _^_, _≤_, _<_}
 use native.Mathlib.Omega.{arith}
 use lib.Dec.{leb}
 use lib.ListN.{length, length-append}
 use borrow.Author.Tests.{le-leb, lt-leb, lt-ltb, le-ltb}
 use Rattle.rules.specs.Choice.{choose}
 use Rattle.rules.specs.Strip.{records}
+use Rattle.text.specs.Put.{Room, Put}
+use Rattle.text.proofs.Putting.{room-next, put-both}
 use Rattle.listing.specs.Line.{longest, longestTail, lines, tailLine, enough, listed, textFor, Lists}
-use Rattle.listing.specs.Put.{Room, Put}
 use Rattle.listing.proofs.Lengths.{lines-long, tail-long}
-use Rattle.listing.proofs.Putting.{room-next, put-both}
 
 none : (k : ℕ) (input output : List ℕ) → enough k input output ≡ false → Lists k input output 0 output
 unfolding textFor

@@ -26,10 +26,10 @@ use Rattle.wayback.specs.Back.{pixelAces}
 use Rattle.rules.specs.Contents.{pixelIn}
 use Rattle.conversion.specs.Conversions.{pixelToAces}
 use Rattle.conversion.proofs.Channels.{all-pass}
+use Rattle.text.specs.Decimal.{decimal, signed}
+use Rattle.text.proofs.Digits.{length-decimal, length-signed}
 use Rattle.listing.specs.declared.Outcome.the-variants.{Aces, Refused}
-use Rattle.listing.specs.Decimal.{decimal, signed}
 use Rattle.listing.specs.Line.{lineOf, line, outcomeOf, afterCheck, lines, tail, tailLine, longest, longestTail}
-use Rattle.listing.proofs.Digits.{length-decimal, length-signed}
 
 number-small : (why : Refusal) → numberOf why < 100
 number-small refusal.Refusal.PartialRecord = omega arith

@@ -1,7 +1,5 @@
-pub mod Digits
 pub mod Lengths
 pub mod Lines
-mod Putting
 mod Judged
 mod Standing
 mod Answers

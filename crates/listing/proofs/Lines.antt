@@ -8,11 +8,12 @@ use native.Mathlib.Omega.{arith}
 use lib.ListN.{length, drop}
 use borrow.Author.Tests.{eq-eqb, ne-eqb}
 use Rattle.rules.specs.Strip.{records}
-use Rattle.strip.proofs.Cut.{cut, records-more}
+use Rattle.passes.proofs.Cut.{cut, records-more}
+use Rattle.text.specs.Decimal.{decimal}
+use Rattle.text.specs.Put.{followed}
 use Rattle.listing.specs.declared.Outcome.{Outcome}
 use Rattle.listing.specs.declared.Outcome.the-variants.{Aces, Refused}
-use Rattle.listing.specs.Decimal.{decimal}
-use Rattle.listing.specs.Line.{followed, lineOf, words, line, outcomeOf, lines, tail, tailLine}
+use Rattle.listing.specs.Line.{lineOf, words, line, outcomeOf, lines, tail, tailLine}
 
 -- a line is its index with the space behind it, and the words of the record
 pub line-parts : (k : ℕ) (o : Outcome) → line k o ≡ followed (decimal k) 32 ++ lineOf (words o)

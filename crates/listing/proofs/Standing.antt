@@ -7,12 +7,12 @@ use native.Mathlib.Nat.{le-antisymm}
 use native.Mathlib.Omega.{arith}
 use lib.ListN.{length, length-append}
 use Rattle.rules.specs.Strip.{records}
-use Rattle.strip.proofs.Cut.{cut}
+use Rattle.passes.proofs.Cut.{cut}
+use Rattle.text.specs.Put.{Room, Put}
+use Rattle.text.proofs.Putting.{put-none, put-both, put-length}
 use Rattle.listing.specs.Line.{longest, outcomeOf, line, lines}
-use Rattle.listing.specs.Put.{Room, Put}
 use Rattle.listing.proofs.Lengths.{line-long, lines-long}
 use Rattle.listing.proofs.Lines.{lines-none, lines-more}
-use Rattle.listing.proofs.Putting.{put-none, put-both, put-length}
 
 -- behind the lines of the first i records
 pub record Stands (k : ℕ) (input : List ℕ) (n : ℕ) (buffer : List ℕ) (i : ℕ) (out : List ℕ) (at : ℕ) : Type 0 where

@@ -16,9 +16,10 @@ use Rattle.rules.specs.Strip.{recordCheck, records}
 use Rattle.wayback.specs.Back.{pixelAces}
 use Rattle.rules.specs.Contents.{pixelIn}
 use Rattle.conversion.specs.Conversions.{pixelToAces}
+use Rattle.text.specs.Decimal.{decimal, signed}
+use Rattle.text.specs.Put.{followed}
 use Rattle.listing.specs.declared.Outcome.{Outcome}
 use Rattle.listing.specs.declared.Outcome.the-variants.{Aces, Refused}
-use Rattle.listing.specs.Decimal.{decimal, signed}
 
 -- "Pixel record, 10 bytes"
 abbrev pub size : ℕ
@@ -35,9 +36,6 @@ abbrev pub tail : List ℕ
 tail = 116 ∷ 97 ∷ 105 ∷ 108 ∷ []
 
 -- the words of a line, "single spaces between" (32), and its end (10): each word with the byte behind it
-abbrev pub followed : (word : List ℕ) (byte : ℕ) → List ℕ
-followed w b = w ++ (b ∷ [])
-
 abbrev pub lineOf : List (List ℕ) → List ℕ
 lineOf [] = []
 lineOf (w ∷ []) = followed w 10

@@ -5,10 +5,10 @@ ghost use lib.ListN.{length};
 ghost use Rattle.rules.specs.Setting.{Valid};
 ghost use Rattle.rules.specs.Record.{settingOf};
 ghost use Rattle.rules.specs.Strip.{records};
-ghost use Rattle.listing.specs.Line.{size, longest, outcomeOf, line, lines, Lists};
-ghost use Rattle.listing.specs.Put.{Room, Put};
+ghost use Rattle.text.specs.Put.{Put};
+ghost use Rattle.listing.specs.Line.{size, longest, outcomeOf, lines, Lists};
 
-mod text;
+mod line;
 
 use conversion::Kind;
 use curve::decoder::Decoder;
@@ -55,18 +55,6 @@ fn judge(r: &[u8]) -> Outcome
     }
 }
 
-// The line of a record.
-fn put_line(out: &mut [u8], at: usize, index: u64, o: Outcome) -> usize
-    requires { ⌜ Room (line index o) (now out) at ⌝ }
-    ensures { λ end. ⌜ Put (line index o) (now (out .entry)) at (now (out .exit)) end ⌝ }
-{
-    let then = text::put_number(out, at, index, text::SPACE);
-    match o {
-        Outcome::Aces(a) => text::put_ok(out, then, a),
-        Outcome::Refused(why) => text::put_refused(out, then, why),
-    }
-}
-
 // The lines of the first n records, of which the first has the index `first`.
 fn put_lines(first: u64, input: &[u8], n: usize, out: &mut [u8]) -> usize
     requires { ⌜ (n * size ≤ length (now input)) × (longest * n ≤ length (now out)) × (first + n < 2 ^ 64) ⌝ }
@@ -77,7 +65,7 @@ fn put_lines(first: u64, input: &[u8], n: usize, out: &mut [u8]) -> usize
     while i < n {
         let a = i * RECORD;
         let o = judge(&input[a..a + RECORD]);
-        at = put_line(out, at, first + i as u64, o);
+        at = line::put_line(out, at, first + i as u64, o);
         i += 1;
     }
     at
@@ -99,5 +87,5 @@ pub fn list(first: u64, input: &[u8], out: &mut [u8]) -> usize
         return 0;
     }
     let at = put_lines(first, input, n, out);
-    text::put_tail(out, at, input.len() % RECORD)
+    line::put_tail(out, at, input.len() % RECORD)
 }

@@ -3,11 +3,11 @@
 use mathlib.Core.Path.{_≡_, refl, ap, _∙_}
 use mathlib.Core.List.{List, [], _∷_, _++_, append-assoc, append-nil}
 use Prim.Native.Nat.{ℕ, zero, suc, _+_, _-_, _*_, _≤_, _<_}
-use native.Mathlib.Nat.{mul-le-mul-right, zero-mul, suc-mul, sub-zero, sub-self}
+use native.Mathlib.Nat.{mul-le-mul-right, zero-add, zero-mul, suc-add, suc-mul, sub-zero, sub-self}
 use native.Mathlib.Numerals.{add-one}
 use native.Mathlib.Omega.{arith}
 use lib.ListN.{length, take, drop, length-append, length-take, length-drop}
-use lib.Seq.{drop-drop}
+use lib.Seq.{drop-drop, take-append-le, drop-append-le}
 use Rattle.rules.specs.Strip.{records, written}
 use Rattle.numbers.proofs.Stretch.{span}
 
@@ -62,6 +62,19 @@ records-suc size (suc k) s =
 
 pub records-more : (size k : ℕ) (s : List ℕ) → records size (k + 1) s ≡ records size k s ++ (cut size k s ∷ [])
 records-more size k s = rw (add-one, records-suc, span (k * size) size)
+
+-- ---- the records of two strips, joined
+empty : (a : List ℕ) → length a ≡ 0 → a ≡ []
+empty [] e = refl
+empty (x ∷ a) e = absurd (omega arith)
+
+pub records-append : (size m n : ℕ) (a b : List ℕ) → length a ≡ m * size → records size (m + n) (a ++ b) ≡ records size m a ++ records size n b
+unfolding records
+records-append size zero n a b e =
+    rw (zero-add, empty a (e ∙ zero-mul size))
+records-append size (suc m) n a b e =
+    let l : length a ≡ m * size + size = e ∙ suc-mul m size in
+    rw (suc-add, take-append-le size a b (omega arith), drop-append-le size a b (omega arith), records-append size m n (drop size a) b (rw length-drop (omega arith)))
 
 -- ---- what is written, one record after the other
 pub written-append : (f : List ℕ → List ℕ) (xs ys : List (List ℕ)) → written f (xs ++ ys) ≡ written f xs ++ written f ys

@@ -1,33 +1,20 @@
 -- A strip may be cut at a record's border and converted in parts, one after the other.
 -- Assumes nothing.
-use mathlib.Core.Path.{_≡_, refl, ap, ap₂, sym, _∙_, subst}
+use mathlib.Core.Path.{_≡_, refl, ap, ap₂, sym, _∙_}
 use mathlib.Core.List.{List, [], _∷_, _++_, append-assoc, append-nil}
-use Prim.Native.Nat.{ℕ, zero, suc, _+_, _-_, _*_, _/_, _%_, _≤_, _<_}
-use native.Mathlib.Nat.{zero-add, zero-mul, suc-mul, suc-add, add-suc, add-zero, add-mul, mul-div-cancel, mul-mod-left, mul-le-mul-right}
+use Prim.Native.Nat.{ℕ, suc, _+_, _-_, _*_, _/_, _%_, _≤_, _<_}
+use native.Mathlib.Nat.{zero-mul, add-suc, add-zero, add-mul, mul-div-cancel, mul-mod-left}
 use native.Mathlib.Omega.{arith}
 use borrow.Author.Tests.{eq-eqb, le-leb}
-use lib.ListN.{length, take, drop, length-append, length-drop, drop-of-length-le}
-use lib.Seq.{take-append-le, drop-append-le, drop-append-add}
+use lib.ListN.{length, drop, length-append, drop-of-length-le}
+use lib.Seq.{drop-append-add}
 use Rattle.rules.specs.declared.Answer.{Answer}
 use Rattle.rules.specs.declared.Answer.the-variants.{Done, Refused}
 use Rattle.rules.specs.declared.Check.{Check}
 use Rattle.rules.specs.declared.Check as check
 use Rattle.rules.specs.Strip.{Conversion, recordCheck, records, written, orNext, scan, scanOf, answerOf, outputAfter, Converts}
 use Rattle.strip.specs.Join.{moved, followed}
-use Rattle.passes.proofs.Cut.{written-append}
-
--- ---- the records of two parts
-empty : (a : List ℕ) → length a ≡ 0 → a ≡ []
-empty [] e = refl
-empty (x ∷ a) e = absurd (omega arith)
-
-pub records-append : (size m n : ℕ) (a b : List ℕ) → length a ≡ m * size → records size (m + n) (a ++ b) ≡ records size m a ++ records size n b
-unfolding records
-records-append size zero n a b e =
-    rw (zero-add, empty a (e ∙ zero-mul size))
-records-append size (suc m) n a b e =
-    let l : length a ≡ m * size + size = e ∙ suc-mul m size in
-    rw (suc-add, take-append-le size a b (omega arith), drop-append-le size a b (omega arith), records-append size m n (drop size a) b (rw length-drop (omega arith)))
+use Rattle.passes.proofs.Cut.{records-append, written-append}
 
 -- ---- the checks of two parts
 scan-moved : (f : List ℕ → Check) (j k : ℕ) (rs : List (List ℕ)) → scan f (j + k) rs ≡ moved j (scan f k rs)

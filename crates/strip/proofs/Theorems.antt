@@ -20,7 +20,6 @@ use Rattle.rules.proofs.Settings.{code-passed}
 use Rattle.curve.specs.Decoded.{decoded}
 use Rattle.curve.proofs.Fit.{decoded-fits}
 use Rattle.curve.proofs.Limit.{decoded-passes}
-use Rattle.encode.specs.Encoded.{encoded}
 use Rattle.encode.proofs.Theorems.{encode-decoded}
 use Rattle.conversion.specs.Conversions.{sceneBits, numberCheck, codeBits, pixelToScene, sceneToPixel}
 use Rattle.conversion.proofs.Good.{Good}

@@ -4,7 +4,6 @@ use mathlib.Core.Path.{_≡_, sym, ap, _∙_, subst}
 use denote.Ref.{now}
 use borrow.Author.Needs.{needs}
 use Rattle.rules.specs.declared.Check.the-variants.{Passed}
-use Rattle.rules.specs.declared.Pixel.{Pixel}
 use Rattle.rules.specs.declared.Setting.{Setting}
 use Rattle.rules.specs.Record.{settingOf}
 use Rattle.rules.specs.Setting.{settingCheck}

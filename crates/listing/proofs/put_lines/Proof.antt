@@ -4,7 +4,7 @@ use mathlib.Core.Path.{refl}
 use Prim.Native.Nat.{_-_}
 use native.Mathlib.Omega.{arith}
 use denote.Ref.{now}
-use Rattle.strip.proofs.Cut.{length-cut}
+use Rattle.passes.proofs.Cut.{length-cut}
 use Rattle.listing.proofs.Standing.{Stands, stands-start, next-room, stands-more, stands-end}
 use Rattle.listing.proofs.put_lines.Statement.{statement}
 use Rattle.listing.proofs.put_lines.Tie as tie

@@ -1,6 +1,6 @@
 -- `write_triple` meets its contract: the record's codes are a pixel, whose ACES numbers are written.
 -- Assumes nothing.
-use mathlib.Core.Path.{_≡_, sym, ap, _∙_, subst}
+use mathlib.Core.Path.{sym, ap, _∙_, subst}
 use denote.Ref.{now}
 use borrow.Author.Needs.{needs}
 use mir.Syntax.{w64}
@@ -8,7 +8,6 @@ use mir.Val.{SFits}
 use Rattle.whole.proofs.Words.{read-back}
 use Rattle.rules.specs.declared.Pixel.{Pixel}
 use Rattle.rules.specs.Record.{toBits, recordOf}
-use Rattle.rules.specs.Setting.{codeCheck}
 use Rattle.rules.specs.WayBack.{IsPixel}
 use Rattle.wayback.specs.Back.{pixelAces}
 use Rattle.rules.specs.Contents.{acesRecord}

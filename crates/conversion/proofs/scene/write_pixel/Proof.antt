@@ -4,7 +4,7 @@ use mathlib.Core.Path.{ap, _∙_}
 use native.Mathlib.Omega.{arith}
 use borrow.Author.Needs.{needs}
 use denote.Ref.{now}
-use Rattle.rules.specs.Record.{Channels, recordOf}
+use Rattle.rules.specs.Record.{recordOf}
 use Rattle.conversion.specs.Conversions.{numberCheck}
 use Rattle.conversion.proofs.Channels.{AllPass, all-pass}
 use Rattle.conversion.proofs.scene.write_pixel.Statement.{statement}
