@@ -16,14 +16,16 @@ extern "C" {
     fn ropeinstant_aces_to_pixel(input: *const u8, input_len: usize, output: *mut u8, output_len: usize, at: *mut u64) -> u32;
 }
 
+pub const LINE: usize = 1024; // pixels
+
 pub struct Setting {
     pub curve: u8,
     pub width: u8,
     pub ei: u16,
 }
 
-/// Nanoseconds a pixel, of Ropeinstant, plain f64, OpenColorIO and a copy.
-pub type Times = [Option<f64>; 4];
+/// Nanoseconds a pixel, of Ropeinstant line by line and in one strip, plain f64, OpenColorIO and a copy.
+pub type Times = [Option<f64>; 5];
 
 /// A strip of random pixels of a setting, its ACES strip, and the least times seen.
 pub struct Contest {
@@ -51,7 +53,7 @@ impl Contest {
         let ocio = Ocio::new(&setting);
         let signals = signals(&setting, &strip);
         let rgb = signals.clone();
-        Contest { setting, strip, aces, ocio, signals, rgb, to_aces: [None; 4], to_camera: [None; 4] }
+        Contest { setting, strip, aces, ocio, signals, rgb, to_aces: [None; 5], to_camera: [None; 5] }
     }
 
     /// Times each contestant once, on the first pixels of the strip.
@@ -59,19 +61,21 @@ impl Contest {
         let (strip, aces) = (&self.strip[..10 * pixels], &self.aces[..28 * pixels]);
         let (mut made, mut returned) = (aces.to_vec(), strip.to_vec());
         let (to, back) = (&mut self.to_aces, &mut self.to_camera);
-        least(&mut to[0], pixels, || convert(ropeinstant_pixel_to_aces, strip, &mut made));
+        least(&mut to[0], pixels, || convert_lines(ropeinstant_pixel_to_aces, strip, 10, &mut made, 28));
+        least(&mut to[1], pixels, || convert(ropeinstant_pixel_to_aces, strip, &mut made));
         assert!(made == aces);
-        least(&mut to[1], pixels, || assert!(plain::to_aces(strip, &mut made)));
-        least(&mut to[3], pixels, || made.copy_from_slice(aces));
-        least(&mut back[0], pixels, || convert(ropeinstant_aces_to_pixel, aces, &mut returned));
+        least(&mut to[2], pixels, || assert!(plain::to_aces(strip, &mut made)));
+        least(&mut to[4], pixels, || made.copy_from_slice(aces));
+        least(&mut back[0], pixels, || convert_lines(ropeinstant_aces_to_pixel, aces, 28, &mut returned, 10));
+        least(&mut back[1], pixels, || convert(ropeinstant_aces_to_pixel, aces, &mut returned));
         assert!(returned == strip);
-        least(&mut back[1], pixels, || assert!(plain::to_camera(aces, &mut returned)));
-        least(&mut back[3], pixels, || made.copy_from_slice(aces));
+        least(&mut back[2], pixels, || assert!(plain::to_camera(aces, &mut returned)));
+        least(&mut back[4], pixels, || made.copy_from_slice(aces));
         if let Some(ocio) = &self.ocio {
             let (signals, rgb) = (&self.signals[..3 * pixels], &mut self.rgb[..3 * pixels]);
             rgb.copy_from_slice(signals);
-            least(&mut to[2], pixels, || ocio.to_aces(rgb));
-            least(&mut back[2], pixels, || ocio.to_camera(rgb));
+            least(&mut to[3], pixels, || ocio.to_aces(rgb));
+            least(&mut back[3], pixels, || ocio.to_camera(rgb));
         }
     }
 
@@ -123,6 +127,11 @@ fn convert(function: Function, input: &[u8], output: &mut [u8]) {
     let mut at = 0;
     let number = unsafe { function(input.as_ptr(), input.len(), output.as_mut_ptr(), output.len(), &mut at) };
     assert_eq!(number, 0, "refused at record {}", at);
+}
+
+/// Converts a strip line by line.
+fn convert_lines(function: Function, input: &[u8], from: usize, output: &mut [u8], to: usize) {
+    input.chunks(LINE * from).zip(output.chunks_mut(LINE * to)).for_each(|(line, made)| convert(function, line, made));
 }
 
 fn converted(function: Function, input: &[u8], length: usize) -> Vec<u8> {

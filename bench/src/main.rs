@@ -3,7 +3,7 @@ mod contest;
 mod ocio;
 mod plain;
 
-use contest::{Contest, Setting, Times};
+use contest::{Contest, Setting, Times, LINE};
 use ocio::Ocio;
 
 const COUNTED: usize = 1 << 20; // pixels of which those that come back a code off are counted
@@ -23,20 +23,22 @@ fn main() {
         contests.iter_mut().for_each(|contest| contest.round(pixels));
     }
     println!("Nanoseconds a pixel on one thread, and how many times Ropeinstant's time that is (below 1: faster than Ropeinstant).");
-    println!("{} random pixels a setting, the least of {} runs that alternate. OpenColorIO: {}.\n", pixels, repetitions, Ocio::version());
+    println!("{} random pixels a setting, the least of {} runs that alternate, in lines of {} pixels, and Ropeinstant in one strip too.", pixels, repetitions, LINE);
+    println!("OpenColorIO: {}.\n", Ocio::version());
     print_times("pixel to ACES", &contests, |contest| &contest.to_aces);
     print_times("ACES to pixel", &contests, |contest| &contest.to_camera);
     print_shares(&contests);
 }
 
 fn print_times(name: &str, contests: &[Contest], of: impl Fn(&Contest) -> &Times) {
-    println!("| {:<25} | Ropeinstant |    plain f64 |  OpenColorIO | copy of 28 bytes |", name);
-    println!("|---------------------------|------------:|-------------:|-------------:|-----------------:|");
+    println!("| {:<25} | Ropeinstant |    one strip |    plain f64 |  OpenColorIO | copy of 28 bytes |", name);
+    println!("|---------------------------|------------:|-------------:|-------------:|-------------:|-----------------:|");
     for contest in contests {
         let times = of(contest);
         let own = times[0].unwrap();
-        let beside = [1, 2, 3].map(|k| times[k].map_or("-".to_string(), |time| format!("{:.1} ({:.2})", time, time / own)));
-        println!("| {:<25} | {:>11.1} | {:>12} | {:>12} | {:>16} |", title(&contest.setting), own, beside[0], beside[1], beside[2]);
+        let beside = [1, 2, 3, 4].map(|k| times[k].map_or("-".to_string(), |time| format!("{:.1} ({:.2})", time, time / own)));
+        let [strip, plain, ocio, copy] = beside;
+        println!("| {:<25} | {:>11.1} | {:>12} | {:>12} | {:>12} | {:>16} |", title(&contest.setting), own, strip, plain, ocio, copy);
     }
     println!();
 }
@@ -57,7 +59,7 @@ fn print_shares(contests: &[Contest]) {
         "Plain f64 reads and writes the same records with the same checks, but its way back gives the nearest codes and refuses nothing;"
     );
     println!(
-        "OpenColorIO works in place on float32 signals in lines of 1024 pixels; turning codes to signals and back is not in its time."
+        "OpenColorIO works in place on float32 signals; turning codes to signals and back is not in its time."
     );
 }
 

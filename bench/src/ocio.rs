@@ -1,5 +1,5 @@
 //! OpenColorIO's CPU processor, as it comes by default (ocio.cpp), over signals and ACES values in float32, where it is installed.
-use crate::contest::Setting;
+use crate::contest::{Setting, LINE};
 
 pub struct Ocio {
     to: *mut u8,
@@ -37,7 +37,7 @@ impl Ocio {
 
 #[cfg(ocio)]
 fn apply(processor: *const u8, rgb: &mut [f32]) {
-    assert_eq!(rgb.len() % (3 * 1024), 0, "lines of 1024 pixels");
+    assert_eq!(rgb.len() % (3 * LINE), 0, "whole lines");
     unsafe { linked::ocio_apply(processor, rgb.as_mut_ptr(), rgb.len() as i64 / 3) }
 }
 

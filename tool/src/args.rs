@@ -5,7 +5,7 @@ use std::ffi::OsString;
 use std::path::PathBuf;
 use std::thread::available_parallelism;
 
-pub const CHUNK: usize = 16384;
+pub const CHUNK: usize = 4096;
 pub const MOST_THREADS: usize = 256;
 pub const MOST_CHUNK: usize = 1_000_000;
 pub const SUBCOMMANDS: [&str; 5] = ["to-aces", "to-camera", "to-scene", "from-scene", "verify"];

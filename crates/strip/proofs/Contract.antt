@@ -29,6 +29,10 @@ module _ (c : Conversion) (input output : List ℕ) where
     unfolding answerOf
     scan-answers = rw (eq-eqb _ 0 w, le-leb _ _ room) e
 
+    -- the output is as it is to be
+    pub in-one-pass : (after : List ℕ) → after ≡ outputAfter c input output a → Converts c input output a after
+    in-one-pass after p = record { answers = scan-answers; writes = p }
+
     -- what is to be written passes
     pub to-write : (m : ℕ) → m ≡ writable a → (m ≤ length input / c .from) × (Done m ≡ scanOf c m input)
     unfolding scan records

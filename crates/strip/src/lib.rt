@@ -7,6 +7,11 @@ use conversion::Kind;
 use rules::Answer;
 use rules::Refusal;
 
+// How many records a strip has that is converted back in one pass.
+const FEW: usize = 16;
+
+const SHORT: usize = 4096;
+
 // How many records are written: all of them, or none where one is refused.
 fn to_write(a: Answer) -> usize
     ensures { λ n. ⌜ n ≡ writable a ⌝ }
@@ -55,9 +60,14 @@ pub fn pixel_to_aces(input: &[u8], output: &mut [u8]) -> Answer
     convert(Kind::PixelToAces, input, output)
 }
 
-// The way back: a strip of ACES records to the one of pixel records that gives it.
+// The way back: a strip of ACES records to the one of pixel records that gives it. A short strip takes one pass; of fewer records than FEW two
+// passes are done before a buffer is made.
 pub fn aces_to_pixel(input: &[u8], output: &mut [u8]) -> Answer
     ensures { λ a. ⌜ Converts acesToPixel (now (input .entry)) (now (output .entry)) a (now (output .exit)) ⌝ }
 {
+    let n = input.len() / 28;
+    if FEW <= n && n <= SHORT && input.len() % 28 == 0 && n * 10 <= output.len() {
+        return one_pass::aces_to_pixel(input, n, output);
+    }
     convert(Kind::AcesToPixel, input, output)
 }
