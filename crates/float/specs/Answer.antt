@@ -1,4 +1,4 @@
--- What decoding one pixel to floats, and encoding one float pixel, answer.
+-- What decoding one pixel to floats answers.
 -- Assumes nothing.
 use mathlib.Core.List.{List, [], _∷_}
 use Prim.Native.Nat.{ℕ}
@@ -10,28 +10,18 @@ use Rattle.rules.specs.declared.Refusal.{Refusal}
 use Rattle.rules.specs.declared.Setting.{Setting}
 use Rattle.rules.specs.Refusal.{then, numberOf}
 use Rattle.rules.specs.Setting.{settingCheck, codeCheck}
-use Rattle.rules.specs.Float.{floatCheck, unitsOf, floatOf, IsFloat}
-use Rattle.rules.specs.WayBack.{pixel}
+use Rattle.rules.specs.Float.{floatOf, IsFloat}
 use Rattle.curve.specs.Decoded.{decoded}
-use Rattle.encode.specs.Encoded.{encoded}
 use Rattle.float.specs.declared.FloatPixel.{FloatPixel}
 use Rattle.float.specs.declared.FloatDecoding.{FloatDecoding}
-use Rattle.float.specs.declared.FloatEncoding.{FloatEncoding}
 
 -- "red, green and blue (each channel's checks before the next channel)"
 abbrev pub codesCheck : Setting → Pixel → Check
 codesCheck s p = then (codeCheck s (p .red .0)) (then (codeCheck s (p .green .0)) (codeCheck s (p .blue .0)))
 
-abbrev pub floatsCheck : FloatPixel → Check
-floatsCheck f = then (floatCheck (f .red)) (then (floatCheck (f .green)) (floatCheck (f .blue)))
-
 -- "A float pixel holds its red, green and blue as three f64 values": those of a pixel's scene numbers
 abbrev pub floatPixel : Setting → Pixel → FloatPixel
 floatPixel s p = record { red = floatOf (decoded s (p .red .0)); green = floatOf (decoded s (p .green .0)); blue = floatOf (decoded s (p .blue .0)) }
-
--- "In the other direction a float is .. taken to the nearest unit (a half going up), then encoded."
-abbrev pub codePixel : Setting → FloatPixel → Pixel
-codePixel s f = pixel (encoded s (unitsOf (f .red))) (encoded s (unitsOf (f .green))) (encoded s (unitsOf (f .blue)))
 
 -- "Decoding one pixel answers either that float pixel or a refusal number."
 abbrev pub floatsAfter : Check → FloatPixel → FloatDecoding
@@ -40,13 +30,6 @@ floatsAfter (check.Check.Refused r) f = FloatDecoding.Refused r
 
 unfoldable pub decodePixelAnswer : Setting → Pixel → FloatDecoding
 decodePixelAnswer s p = floatsAfter (then (settingCheck s) (codesCheck s p)) (floatPixel s p)
-
-abbrev pub codesAfter : Check → Pixel → FloatEncoding
-codesAfter check.Check.Passed p = FloatEncoding.Pixel p
-codesAfter (check.Check.Refused r) p = FloatEncoding.Refused r
-
-unfoldable pub encodePixelAnswer : Setting → FloatPixel → FloatEncoding
-encodePixelAnswer s f = codesAfter (then (settingCheck s) (floatsCheck f)) (codePixel s f)
 
 -- each float of a decoded pixel is its scene number exactly
 pub data Exact (s : Setting) (p : Pixel) : FloatDecoding → Type 0 where
@@ -58,10 +41,6 @@ pub data Exact (s : Setting) (p : Pixel) : FloatDecoding → Type 0 where
 abbrev pub decodingGiven : FloatDecoding → ℕ × List Float
 decodingGiven (FloatDecoding.Pixel f) = (0, f .red ∷ f .green ∷ f .blue ∷ [])
 decodingGiven (FloatDecoding.Refused r) = (numberOf r, [])
-
-abbrev pub encodingGiven : FloatEncoding → ℕ × List ℕ
-encodingGiven (FloatEncoding.Pixel p) = (0, p .red .0 ∷ p .green .0 ∷ p .blue .0 ∷ [])
-encodingGiven (FloatEncoding.Refused r) = (numberOf r, [])
 
 -- the same of a check and of values that are given where it passes
 abbrev pub givenAfter : {A : Type 0} → Check → List A → ℕ × List A

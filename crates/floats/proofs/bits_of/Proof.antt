@@ -1,7 +1,7 @@
 -- `bits_of` asks for the bits of a number only.
 -- Assumes nothing.
 use borrow.Author.Needs.{needs}
-use Rattle.float.proofs.Fields.{not-nan}
+use Rattle.units.proofs.Fields.{not-nan}
 use Rattle.floats.proofs.bits_of.Statement.{statement}
 use Rattle.floats.proofs.bits_of.Tie as tie
 

@@ -1,0 +1,64 @@
+// Encoding from float pixels: the pixel of three f64.
+ghost use mathlib.Core.Path.{_≡_};
+ghost use Rattle.rules.specs.declared.Check.the-variants.{Passed};
+ghost use Rattle.rules.specs.Setting.{Valid};
+ghost use Rattle.rules.specs.Encoding.{sceneCheck};
+ghost use Rattle.rules.specs.WayBack.{pixel};
+ghost use Rattle.encode.specs.Encoded.{encoded};
+ghost use Rattle.fromfloat.specs.Answer.{floatsCheck, codePixel, codesAfter, encodePixelAnswer};
+use curve::decoder::Decoder;
+use float::FloatPixel;
+use rules::Check;
+use rules::Pixel;
+use rules::Refusal;
+use rules::Scene;
+use rules::Setting;
+use units::Reading;
+
+// What encoding one float pixel answers.
+pub enum FloatEncoding {
+    Pixel(Pixel),
+    Refused(Refusal),
+}
+
+fn codes_of(s: Setting, red: Scene, green: Scene, blue: Scene) -> Pixel
+    requires { ⌜ Valid s ⌝ }
+    requires { ⌜ sceneCheck (red .0) ≡ Passed ⌝ }
+    requires { ⌜ sceneCheck (green .0) ≡ Passed ⌝ }
+    requires { ⌜ sceneCheck (blue .0) ≡ Passed ⌝ }
+    ensures { λ p. ⌜ p ≡ pixel (encoded s (red .0)) (encoded s (green .0)) (encoded s (blue .0)) ⌝ }
+{
+    let d = Decoder::new(s);
+    let t = table::table(s);
+    Pixel {
+        red: encode::code_of(s, d, &t, red),
+        green: encode::code_of(s, d, &t, green),
+        blue: encode::code_of(s, d, &t, blue),
+    }
+}
+
+fn encode_valid(s: Setting, f: FloatPixel) -> FloatEncoding
+    requires { ⌜ Valid s ⌝ }
+    ensures { λ a. ⌜ a ≡ codesAfter (floatsCheck f) (codePixel s f) ⌝ }
+{
+    match units::read(f.red) {
+        Reading::Refused(r) => FloatEncoding::Refused(r),
+        Reading::Scene(red) => match units::read(f.green) {
+            Reading::Refused(r) => FloatEncoding::Refused(r),
+            Reading::Scene(green) => match units::read(f.blue) {
+                Reading::Refused(r) => FloatEncoding::Refused(r),
+                Reading::Scene(blue) => FloatEncoding::Pixel(codes_of(s, red, green, blue)),
+            },
+        },
+    }
+}
+
+// The pixel of a float pixel, or the refusal of the first check that fails: 3, 4, 5, then 8 and 9 for red, green and blue.
+pub fn encode_pixel(s: Setting, f: FloatPixel) -> FloatEncoding
+    ensures { λ a. ⌜ a ≡ encodePixelAnswer s f ⌝ }
+{
+    match setting::check_setting(s) {
+        Check::Refused(r) => FloatEncoding::Refused(r),
+        Check::Passed => encode_valid(s, f),
+    }
+}
