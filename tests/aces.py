@@ -8,6 +8,7 @@ from rules import ACES_TO_PIXEL, NUMBERS, PIXEL, PIXEL_TO_ACES, PIXEL_TO_SCENE, 
 from strips import ENDS, hold, jobs, returned
 
 STRIPS, RECORDS = 20, 50000
+BORDERS = 1, 15, 16, 17, 1000, 4095, 4096, 4097, 20000  # records of a strip: where the library takes another way, and beside it
 SAMPLE = 1000  # of the records of each strip: the way back by definition
 LISTED = (3, 12, 800)
 
@@ -64,6 +65,20 @@ def million(driver, pick, table):
             assert line == b"refused 10 0", (line, NUMBERS.unpack(r))
 
 
+def borders(driver, pick, table):
+    """strips of ACES records of chosen lengths: whole; with one record, or two, of which the first is named, that no pixel gives"""
+    tried = 0
+    for n in BORDERS:
+        pixels, made, off = mixed(pick, table, n)
+        same(drive(driver, "strip", "aces-to-pixel", b"".join(made)), b"done %d\n" % n + b"".join(pixels), PIXEL.size, made)
+        for k in {0, n // 2, n - 1}:
+            strip = made[:k] + off[k:k + 1] + pick.choice((made, off))[k + 1:]
+            got = drive(driver, "strip", "aces-to-pixel", b"".join(strip))
+            assert got == b"refused 10 %d\n" % k + bytes(n * PIXEL.size), (n, k, got[:40])
+            tried += 1
+    return tried
+
+
 def listed():
     """the pixel and the triple that 01 lists, and triples at the ends of the range, alone and after a record that passes"""
     pixel, triple = PIXEL.pack(*LISTED, 100, 0, 0), NUMBERS.pack(*LISTED, -238167, -283566, -289928)
@@ -92,8 +107,10 @@ def main():
     assert aces(LISTED, *(table[LISTED][n] for n in (100, 0, 0))) == [-238167, -283566, -289928]
     assert pixel_of(table, LISTED, [-290085, -290085, -290084]) is None
     million(driver, pick, table)
+    tried = borders(driver, pick, table)
     print(f"aces: {STRIPS * RECORDS} pixels of {len(SETTINGS)} settings in mixed strips: their ACES strips are exact in every byte, and give the pixels back")
     print(f"aces: {STRIPS * RECORDS} ACES triples one unit off in one channel are each refused by 10 (two pixels are {float(least):.1f} units apart or more)")
+    print(f"aces: strips of {', '.join(map(str, BORDERS))} ACES records give the pixels back; {tried} with a record one unit off are refused there, and their outputs stay")
     todo = [*listed(), *jobs(pick, table, (PIXEL_TO_ACES, ACES_TO_PIXEL), 4000), *jobs(pick, table, (PIXEL_TO_SCENE, SCENE_TO_PIXEL), 1000)]
     seen, done = hold([driver, "jobs"], table, todo)
     assert all(f"refused {n}" in seen for n in (*range(1, 8), 10)), seen

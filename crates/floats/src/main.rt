@@ -4,7 +4,7 @@
 ghost use Prim.Native.Nat.{_≤_};
 use float::FloatDecoding;
 use float::FloatPixel;
-use fromfloat::FloatEncoding;
+use from_float::FloatEncoding;
 use libc::STDIN_FILENO;
 use libc::STDOUT_FILENO;
 use rules::Code;
@@ -98,7 +98,7 @@ fn answer(b: &[u8; 29]) {
     if b[0] == 0 {
         print_floats(float::decode_pixel(s, pixel_in(b)));
     } else {
-        print_codes(fromfloat::encode_pixel(s, floats_in(b)));
+        print_codes(from_float::encode_pixel(s, floats_in(b)));
     }
     io::write_all(STDOUT_FILENO, b"\n");
 }

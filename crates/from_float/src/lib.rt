@@ -5,7 +5,7 @@ ghost use Rattle.rules.specs.Setting.{Valid};
 ghost use Rattle.rules.specs.Encoding.{sceneCheck};
 ghost use Rattle.rules.specs.WayBack.{pixel};
 ghost use Rattle.encode.specs.Encoded.{encoded};
-ghost use Rattle.fromfloat.specs.Answer.{floatsCheck, codePixel, codesAfter, encodePixelAnswer};
+ghost use Rattle.from_float.specs.Answer.{floatsCheck, codePixel, codesAfter, encodePixelAnswer};
 use curve::decoder::Decoder;
 use float::FloatPixel;
 use rules::Check;

@@ -6,13 +6,13 @@ use Rattle.rules.specs.declared.Check.the-variants.{Passed}
 use Rattle.rules.specs.declared.Scene.{Scene}
 use Rattle.rules.specs.Encoding.{sceneCheck}
 use lib.Ieee.{Float}
-use Rattle.fromfloat.specs.declared.FloatEncoding.{FloatEncoding}
+use Rattle.from_float.specs.declared.FloatEncoding.{FloatEncoding}
 use Rattle.units.specs.declared.Reading.{Reading}
 use Rattle.units.specs.Reading.{readAnswer}
 use Rattle.units.proofs.Readings.{check-is, scene-is}
 use Rattle.units.proofs.Range.{units-pass}
-use Rattle.fromfloat.proofs.encode_valid.Statement.{statement}
-use Rattle.fromfloat.proofs.encode_valid.Tie as tie
+use Rattle.from_float.proofs.encode_valid.Statement.{statement}
+use Rattle.from_float.proofs.encode_valid.Tie as tie
 
 -- the readings of the channels that pass
 red-read : (c : tie.After-red) → readAnswer (c .before .before .before .args .f .red) ≡ Reading.Scene (c .red .given .0 .0)

@@ -2,9 +2,9 @@
 -- Assumes nothing.
 use mathlib.Core.Path.{sym, _∙_}
 use borrow.Author.Needs.{needs}
-use Rattle.fromfloat.specs.Answer.{encodePixelAnswer}
-use Rattle.fromfloat.proofs.encode_pixel.Statement.{statement}
-use Rattle.fromfloat.proofs.encode_pixel.Tie as tie
+use Rattle.from_float.specs.Answer.{encodePixelAnswer}
+use Rattle.from_float.proofs.encode_pixel.Statement.{statement}
+use Rattle.from_float.proofs.encode_pixel.Tie as tie
 
 encode-valid-requires : tie.Need-encode-valid-requires
 encode-valid-requires c κs = sym (c .before .before .check-setting .ensures) ∙ c .enum-told .given .1

@@ -23,8 +23,8 @@ use Rattle.float.specs.declared.FloatPixel.{FloatPixel}
 use Rattle.float.specs.declared.FloatDecoding.{FloatDecoding}
 use Rattle.float.specs.Answer.{codesCheck, floatPixel, floatsAfter, decodePixelAnswer, givenAfter}
 use Rattle.float.proofs.Channels.{is-pixel, decoded-small}
-use Rattle.fromfloat.specs.declared.FloatEncoding.{FloatEncoding}
-use Rattle.fromfloat.specs.Answer.{floatsCheck, codePixel, codesAfter, encodePixelAnswer, encodingGiven}
+use Rattle.from_float.specs.declared.FloatEncoding.{FloatEncoding}
+use Rattle.from_float.specs.Answer.{floatsCheck, codePixel, codesAfter, encodePixelAnswer, encodingGiven}
 
 -- the float of a code's number passes the checks, and encodes to that code
 module _ (s : Setting) (v : Valid s) (n : ℕ) (h : codeCheck s n ≡ Passed) where

@@ -1,8 +1,8 @@
 -- `codes_of` meets its contract: each number is encoded.
 -- Assumes nothing.
 use borrow.Author.Needs.{needs}
-use Rattle.fromfloat.proofs.codes_of.Statement.{statement}
-use Rattle.fromfloat.proofs.codes_of.Tie as tie
+use Rattle.from_float.proofs.codes_of.Statement.{statement}
+use Rattle.from_float.proofs.codes_of.Tie as tie
 
 returns : tie.Need-returns
 returns c =

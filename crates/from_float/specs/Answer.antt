@@ -12,7 +12,7 @@ use Rattle.rules.specs.Float.{floatCheck, unitsOf}
 use Rattle.rules.specs.WayBack.{pixel}
 use Rattle.encode.specs.Encoded.{encoded}
 use Rattle.float.specs.declared.FloatPixel.{FloatPixel}
-use Rattle.fromfloat.specs.declared.FloatEncoding.{FloatEncoding}
+use Rattle.from_float.specs.declared.FloatEncoding.{FloatEncoding}
 
 -- "red, green and blue (each channel's checks before the next channel)"
 abbrev pub floatsCheck : FloatPixel → Check
