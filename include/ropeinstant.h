@@ -61,7 +61,9 @@ uint32_t ropeinstant_scene_to_pixel(const uint8_t *in, size_t in_len, uint8_t *o
 /* Pixel records (10 bytes) to ACES records (28 bytes). Refuses by 1 to 6. */
 uint32_t ropeinstant_pixel_to_aces(const uint8_t *in, size_t in_len, uint8_t *out, size_t out_len, uint64_t *at);
 
-/* The way back: ACES records (28 bytes) to the pixel records (10 bytes) with exactly these ACES numbers. Refuses by 1 to 5 and 10. */
+/* The way back: ACES records (28 bytes) to the pixel records (10 bytes) with exactly these ACES numbers. Refuses by 1 to 5 and 10.
+ * A strip of 16 to 4096 records is converted in one pass, with a buffer of 40 KiB on the stack, and any other in two, which take almost
+ * twice the time: a longer strip may be cut at a record's border and converted in parts. */
 uint32_t ropeinstant_aces_to_pixel(const uint8_t *in, size_t in_len, uint8_t *out, size_t out_len, uint64_t *at);
 
 #ifdef __cplusplus
