@@ -38,7 +38,7 @@ use Rattle.curve.specs.Decoded.{offset, raw, decoded}
 use Rattle.curve.proofs.Limit.{raw-limited}
 use Rattle.curve.proofs.Theorems.{decoding}
 use Rattle.encode.proofs.Theorems.{nearest-only, encoded-last, encode-near}
-use Rattle.matrix.specs.Inverse.{candidate}
+use Rattle.inverse.specs.Inverse.{candidate}
 use Rattle.wayback.specs.Back.{pixelFor}
 use Rattle.wayback.specs.Candidate.{codeFor, candidatePixel}
 use Rattle.wayback.proofs.Only.{trying-finds}

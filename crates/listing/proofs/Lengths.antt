@@ -19,8 +19,8 @@ use Rattle.rules.specs.Setting.{settingCheck, codeCheck}
 use Rattle.rules.specs.Strip.{recordCheck, records}
 use Rattle.rules.proofs.Settings.{code-passed, both}
 use Rattle.curve.specs.Decoded.{decoded}
-use Rattle.matrix.specs.Row.{Given}
-use Rattle.matrix.proofs.Inverse.{aces-small}
+use Rattle.inverse.specs.Given.{Given}
+use Rattle.inverse.proofs.Inverse.{aces-small}
 use Rattle.matrix.proofs.Theorems.{decoded-small}
 use Rattle.wayback.specs.Back.{pixelAces}
 use Rattle.rules.specs.Contents.{pixelIn}

@@ -2,26 +2,22 @@
 -- Assumes nothing.
 use mathlib.Core.Bool.{Bool, true, false}
 use mathlib.Core.Path.{_≡_, refl, sym, ap, _∙_}
-use Prim.Native.Nat.{ℕ, zero, suc, _+_, _-_, _*_, _^_, _<_, _≤_}
-use native.Mathlib.Nat.{mul-one, one-mul, sub-zero, mul-le-mul-right}
+use Prim.Native.Nat.{ℕ, _+_, _-_, _*_, _^_, _<_, _≤_}
+use native.Mathlib.Nat.{mul-le-mul-right}
 use native.Mathlib.Omega.{arith}
 use lib.Dec.{eqb, lit≤}
-use lib.IntN.{ℤ, pos, natAbs, subℕ, _+ℤ_, _*ℤ_}
-use lib.Signed.{shrZ}
+use lib.IntN.{ℤ, pos, natAbs, _+ℤ_, _*ℤ_}
 use Rattle.whole.specs.Parts.{up, dn}
 use Rattle.whole.proofs.Reflect.{abs-is, at, add, mul, dif, eqZ}
 use Rattle.whole.proofs.Floor.{floor-only}
 use Rattle.rules.specs.declared.Setting.{Setting}
 use Rattle.rules.specs.Choice.{choose}
 use Rattle.rules.specs.Fraction.{integer, whole, _/ℚ_, nearest}
-use Rattle.rules.specs.Matrix.{Matrix, logC3Matrix, logC4Matrix, matrixOf, entry, rowProduct, acesNumber, IsAces}
-use Rattle.matrix.specs.Row.{Number}
+use Rattle.rules.specs.Matrix.{Matrix, logC3Matrix, logC4Matrix, matrixOf, entry, acesNumber, IsAces}
+use Rattle.rows.specs.Row.{Number}
+use Rattle.rows.proofs.Nearest.{nearest-of}
 
--- a quotient to the nearest, over naturals
-pub nearest-of : (S : ℤ) (s : ℕ) → nearest (integer S /ℚ whole s) ≡ shrZ (subℕ (2 * up S + s) (2 * dn S)) (2 * s)
-nearest-of S s = rw (mul-one (up S), mul-one (dn S), one-mul, sub-zero)
-
--- ---- greys: where the entries of a row sum to k, which is near the scale s
+-- greys: where the entries of a row sum to k, which is near the scale s
 grey : (s k t : ℕ) (x : ℤ) → s ≤ k + t → k ≤ s + t → 2 * (t * natAbs x) < s → nearest (integer (pos k *ℤ x) /ℚ whole s) ≡ x
 grey s k t x l h e =
     let d = dif (mul (at (pos k)) (at x)) in

@@ -1,11 +1,10 @@
 -- DEMANDS 2 and 3, the ACES numbers of a pixel, for every valid setting.
 -- Assumes nothing.
-use Prim.Native.Nat.{ℕ, _+_, _^_, _≤_, _<_}
+use Prim.Native.Nat.{ℕ, _^_, _≤_, _<_}
 use native.Mathlib.Nat.{le-trans}
 use native.Mathlib.Omega.{arith}
 use lib.Dec.{eqb, lit≤}
-use lib.IntN.{ℤ, natAbs, subℕ}
-use Rattle.whole.specs.Parts.{up, dn}
+use lib.IntN.{natAbs, subℕ}
 use Rattle.whole.proofs.Reflect.{abs-is, one-zero, sub-dif}
 use Rattle.rules.specs.declared.Setting.{Setting}
 use Rattle.rules.specs.Setting.{topOf, Valid}
@@ -15,7 +14,7 @@ use Rattle.rules.specs.ExactRow.{TwoUnits}
 use Rattle.curve.specs.Decoded.{offset, raw, decoded}
 use Rattle.curve.proofs.Close.{decoded-close}
 use Rattle.curve.proofs.Limit.{raw-limited}
-use Rattle.matrix.specs.Row.{Number}
+use Rattle.rows.specs.Row.{Number}
 use Rattle.matrix.proofs.Greys.{greys-stay}
 use Rattle.matrix.proofs.TwoUnits.{matrix-two-units}
 

@@ -1,12 +1,12 @@
 -- Where each number is less than one unit from its exact value, a row that weighs less than 1.5 is less than two units from the exact row.
 -- Assumes nothing.
 use mathlib.Core.Bool.{Bool, true, false}
-use mathlib.Core.Path.{_≡_, refl, ap, _∙_}
+use mathlib.Core.Path.{_≡_, refl}
 use Prim.Native.Nat.{ℕ, zero, suc, _+_, _-_, _*_, _^_, _<_, _≤_}
 use native.Mathlib.Nat.{sub-zero}
 use native.Mathlib.Omega.{arith}
 use lib.Dec.{lit<}
-use lib.IntN.{ℤ, pos, negsuc, natAbs, subℕ, _+ℤ_, _*ℤ_}
+use lib.IntN.{ℤ, pos, negsuc, natAbs, _+ℤ_, _*ℤ_}
 use Rattle.whole.specs.Parts.{up, dn}
 use Rattle.whole.proofs.Reflect.{at, add, mul, dif}
 use Rattle.whole.proofs.Floor.{half-bounds}
@@ -17,8 +17,8 @@ use Rattle.rules.specs.Exact.{Scale}
 use Rattle.rules.specs.Decoding.{unit, Less, Greater}
 use Rattle.rules.specs.Choice.{choose}
 use Rattle.rules.specs.Matrix.{Matrix, logC3Matrix, logC4Matrix, entry, acesNumber}
-use Rattle.matrix.proofs.Greys.{nearest-of}
-use Rattle.rules.specs.ExactRow.{Close, Beyond, Short, RowLess, RowGreater, TwoUnits}
+use Rattle.rules.specs.ExactRow.{Close, Beyond, Short, TwoUnits}
+use Rattle.rows.proofs.Nearest.{nearest-of}
 
 -- a fraction beyond the exact value, one unit from y
 abbrev beyond : ℤ → ℤ → Fraction

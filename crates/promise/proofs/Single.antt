@@ -26,8 +26,8 @@ use Rattle.rules.specs.WayBack.{IsPixel, foundCheck}
 use Rattle.rules.proofs.Records.{FitsRecord, value-small, drop-bytes, read-setting, read-channels, write-read, of-to, to-of, bits-fit, length-record}
 use Rattle.rules.proofs.Settings.{both, code-passed, refused-never}
 use Rattle.curve.specs.Decoded.{decoded}
-use Rattle.matrix.specs.Row.{Small3, Given}
-use Rattle.matrix.proofs.Inverse.{aces-small}
+use Rattle.inverse.specs.Given.{Small3, Given}
+use Rattle.inverse.proofs.Inverse.{aces-small}
 use Rattle.matrix.proofs.Theorems.{decoded-small}
 use Rattle.wayback.specs.Back.{pixelAces, pixelFor}
 use Rattle.wayback.proofs.Theorems.{found-gives, own-found, one-pixel}

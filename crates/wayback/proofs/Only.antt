@@ -22,9 +22,9 @@ use Rattle.rules.proofs.Search as search
 use Rattle.curve.specs.Decoded.{decoded}
 use Rattle.encode.specs.Encoded.{encoded}
 use Rattle.encode.proofs.Theorems.{encoded-nearest, encode-near}
-use Rattle.matrix.specs.Row.{Small3, Given}
-use Rattle.matrix.specs.Inverse.{candidate}
-use Rattle.matrix.proofs.Inverse.{aces-small, candidate-near}
+use Rattle.inverse.specs.Given.{Small3, Given}
+use Rattle.inverse.specs.Inverse.{candidate}
+use Rattle.inverse.proofs.Inverse.{aces-small, candidate-near}
 use Rattle.matrix.proofs.Theorems.{decoded-small}
 use Rattle.wayback.specs.Back.{pixelAces, pixelFor}
 use Rattle.wayback.specs.Candidate.{codeFor, candidatePixel, allInReach}

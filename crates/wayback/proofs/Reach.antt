@@ -7,7 +7,7 @@ use lib.Dec.{T}
 use Rattle.rules.specs.declared.Triple.{Triple}
 use Rattle.rules.specs.Choice.{choose}
 use Rattle.rules.proofs.Between.{between, small-between, between-small}
-use Rattle.matrix.specs.Row.{Given}
+use Rattle.inverse.specs.Given.{Given}
 use Rattle.wayback.specs.Candidate.{inReach, allInReach}
 
 -- numbers that a pixel may have

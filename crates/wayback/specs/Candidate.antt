@@ -10,7 +10,7 @@ use Rattle.rules.specs.declared.Triple.{Triple}
 use Rattle.rules.specs.Choice.{choose}
 use Rattle.rules.specs.WayBack.{pixel}
 use Rattle.encode.specs.Encoded.{encoded}
-use Rattle.matrix.specs.Inverse.{candidate}
+use Rattle.inverse.specs.Inverse.{candidate}
 
 -- a code of it
 abbrev pub codeFor : Setting → (i : ℕ) → Triple → ℕ

@@ -5,7 +5,7 @@ ghost use Rattle.rules.specs.declared.Found as found;
 ghost use Rattle.rules.specs.Setting.{Valid};
 ghost use Rattle.rules.specs.Matrix.{matrixOf};
 ghost use Rattle.rules.specs.WayBack.{IsPixel, equal, equal3, tried, foundCheck};
-ghost use Rattle.matrix.specs.Row.{Given};
+ghost use Rattle.inverse.specs.Given.{Given};
 ghost use Rattle.curve.specs.Decoded.{decoded};
 ghost use Rattle.curve.specs.Ready.{Ready};
 ghost use Rattle.wayback.specs.Back.{pixelAces, pixelFor, backAnswer};
@@ -90,7 +90,7 @@ fn candidate(s: Setting, d: Decoder, t: &[u64; 128], a: Triple) -> Pixel
     requires { ⌜ Given (a .red .0) (a .green .0) (a .blue .0) ⌝ }
     ensures { λ p. ⌜ p ≡ candidatePixel s a ⌝ }
 {
-    let x = matrix::candidate(s, a);
+    let x = inverse::candidate(s, a);
     Pixel {
         red: encode::code_of(s, d, t, x.red),
         green: encode::code_of(s, d, t, x.green),

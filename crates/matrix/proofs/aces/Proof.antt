@@ -1,8 +1,7 @@
 -- `aces` meets its contract.
 -- Assumes nothing.
-use borrow.Author.Needs.{needs}
 use Rattle.whole.proofs.Words.{read-back}
-use Rattle.matrix.proofs.Sizes.{number-fits}
+use Rattle.rows.proofs.Sizes.{number-fits}
 use Rattle.matrix.proofs.aces.Statement.{statement}
 use Rattle.matrix.proofs.aces.Tie as tie
 

@@ -1,11 +1,10 @@
 -- `aces_c3` meets its contract: each row product is rounded once.
 -- Assumes nothing.
 use mathlib.Core.Path.{_∙_}
-use borrow.Author.Needs.{needs}
 use Rattle.whole.proofs.Words.{read-back}
 use Rattle.rules.specs.Matrix.{logC3Matrix, acesNumber}
-use Rattle.matrix.specs.Row.{SmallRows}
-use Rattle.matrix.proofs.Sizes.{Read, read-products, rows-small}
+use Rattle.rows.specs.Row.{SmallRows}
+use Rattle.rows.proofs.Sizes.{Read, read-products, rows-small}
 use Rattle.matrix.proofs.aces_c3.Statement.{statement}
 use Rattle.matrix.proofs.aces_c3.Tie as tie
 

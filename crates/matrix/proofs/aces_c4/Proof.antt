@@ -1,14 +1,14 @@
 -- `aces_c4` meets its contract: the row products of the digits are joined and rounded once.
 -- Assumes nothing.
 use mathlib.Core.List.{List, map}
-use mathlib.Core.Path.{_≡_, ap, _∙_}
-use borrow.Author.Needs.{needs}
+use mathlib.Core.Path.{ap, _∙_}
 use lib.IntN.{ℤ}
 use Rattle.whole.proofs.Words.{read-back}
 use Rattle.rules.specs.Fraction.{integer, whole, _/ℚ_, nearest}
 use Rattle.rules.specs.Matrix.{logC4Matrix, entry, acesNumber}
-use Rattle.matrix.specs.Row.{SmallRows, lower, upper}
-use Rattle.matrix.proofs.Sizes.{Read, read-products, rows-small}
+use Rattle.rows.specs.Row.{SmallRows}
+use Rattle.rows.specs.Digits.{lower, upper}
+use Rattle.rows.proofs.Sizes.{Read, read-products, rows-small}
 use Rattle.matrix.proofs.Split.{three-digits}
 use Rattle.matrix.proofs.aces_c4.Statement.{statement}
 use Rattle.matrix.proofs.aces_c4.Tie as tie

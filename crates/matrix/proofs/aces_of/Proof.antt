@@ -1,11 +1,7 @@
 -- `aces_of` meets its contract: the setting's curve decides.
 -- Assumes nothing.
-use borrow.Author.Needs.{needs}
 use borrow.Author.Tests.{ne-eqb}
-use mathlib.Core.Path.{_∙_}
-use lib.IntN.{ℤ}
 use Rattle.whole.proofs.Words.{read-back}
-use Rattle.rules.specs.Matrix.{matrixOf, IsAces}
 use Rattle.matrix.proofs.aces_of.Statement.{statement}
 use Rattle.matrix.proofs.aces_of.Tie as tie
 

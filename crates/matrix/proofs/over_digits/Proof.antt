@@ -10,7 +10,8 @@ use mir.Syntax.{w64}
 use mir.Val.{SFits}
 use Prim.Native.Nat.{_≤_}
 use Rattle.whole.proofs.Words.{readBack, read-back}
-use Rattle.matrix.proofs.Rounding.{digits, more-fits, more-small, carried-fits, quotient-small}
+use Rattle.rows.proofs.Carries.{more-fits, more-small, carried-fits, quotient-small}
+use Rattle.matrix.proofs.Rounding.{digits}
 use Rattle.matrix.proofs.over_digits.Statement.{statement}
 use Rattle.matrix.proofs.over_digits.Tie as tie
 

@@ -7,7 +7,8 @@ use lib.IntN.{pos, _+ℤ_}
 use mir.Syntax.{w64}
 use mir.Val.{SFits}
 use Rattle.whole.proofs.Words.{read-back}
-use Rattle.matrix.proofs.Rounding.{million, more-fits}
+use Rattle.rows.proofs.Carries.{more-fits}
+use Rattle.matrix.proofs.Rounding.{million}
 use Rattle.matrix.proofs.over_million.Statement.{statement}
 use Rattle.matrix.proofs.over_million.Tie as tie
 

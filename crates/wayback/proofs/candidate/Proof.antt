@@ -10,9 +10,9 @@ use Rattle.rules.specs.declared.Setting.{Setting}
 use Rattle.rules.specs.Encoding.{sceneCheck}
 use Rattle.rules.proofs.Between.{scene-passes}
 use Rattle.encode.specs.Encoded.{encoded}
-use Rattle.matrix.specs.Row.{Given}
-use Rattle.matrix.specs.Inverse.{candidate}
-use Rattle.matrix.proofs.Inverse.{candidate-small}
+use Rattle.inverse.specs.Given.{Given}
+use Rattle.inverse.specs.Inverse.{candidate}
+use Rattle.inverse.proofs.Inverse.{candidate-small}
 use Rattle.wayback.proofs.candidate.Statement.{statement}
 use Rattle.wayback.proofs.candidate.Tie as tie
 

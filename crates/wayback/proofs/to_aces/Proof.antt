@@ -10,7 +10,7 @@ use Rattle.rules.specs.Setting.{codeCheck, Valid}
 use Rattle.rules.proofs.Settings.{code-passed}
 use Rattle.curve.specs.Decoded.{decoded}
 use Rattle.curve.proofs.Fit.{ready-fits, ready-number}
-use Rattle.matrix.specs.Row.{Number}
+use Rattle.rows.specs.Row.{Number}
 use Rattle.matrix.proofs.Theorems.{decoded-number}
 use Rattle.wayback.proofs.to_aces.Statement.{statement}
 use Rattle.wayback.proofs.to_aces.Tie as tie

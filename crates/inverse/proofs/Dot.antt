@@ -1,15 +1,14 @@
 -- Rows of three integers, and their products.
 -- Assumes nothing.
-use mathlib.Core.Path.{_≡_, refl}
+use mathlib.Core.Path.{_≡_}
 use mathlib.Core.List.{List}
-use Prim.Native.Nat.{ℕ, _+_, _*_, _≤_}
-use native.Mathlib.Nat.{mul-le-mul-right}
+use Prim.Native.Nat.{ℕ, _+_, _*_}
 use native.Mathlib.Omega.{arith}
 use lib.IntN.{ℤ, pos, natAbs, _+ℤ_, _*ℤ_}
 use Rattle.whole.proofs.Reflect.{at, add, mul, eqZ}
 use Rattle.whole.proofs.Near.{Near, near-add, near-mul, near-more}
 use Rattle.rules.specs.Matrix.{entry}
-use Rattle.matrix.specs.Row.{plain}
+use Rattle.rows.specs.Row.{plain}
 
 pub record Three : Type 0 where
   pub red : ℤ

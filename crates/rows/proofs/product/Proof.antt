@@ -9,11 +9,10 @@ use mir.Syntax.{w64}
 use mir.Val.{SFits}
 use Rattle.whole.proofs.Words.{readBack, read-back}
 use Rattle.rules.specs.Matrix.{entry}
-use Rattle.matrix.specs.Row.{plain, Sum}
-use Rattle.matrix.proofs.Rounding.{sum-fits}
-use Rattle.matrix.proofs.Sizes.{term-fits, two-fit, sum-small}
-use Rattle.matrix.proofs.product.Statement.{statement}
-use Rattle.matrix.proofs.product.Tie as tie
+use Rattle.rows.specs.Row.{plain}
+use Rattle.rows.proofs.Sizes.{sum-fits, term-fits, two-fit, sum-small}
+use Rattle.rows.proofs.product.Statement.{statement}
+use Rattle.rows.proofs.product.Tie as tie
 
 -- an element that is read
 known : (z : ℤ) → mag z < 9223372036854775808 → readBack z ≡ z

@@ -1,25 +1,21 @@
 -- The entries that the program multiplies are small, so that its sums fit words.
 -- Assumes nothing.
-use mathlib.Core.Bool.{Bool, true, false}
-use mathlib.Core.List.{List, [], _∷_, map}
+use mathlib.Core.Bool.{Bool}
+use mathlib.Core.List.{List, [], _∷_}
 use mathlib.Core.Path.{_≡_}
-use Prim.Native.Nat.{ℕ, _+_, _*_, _^_, _<_, _≤_}
+use Prim.Native.Nat.{ℕ, _+_, _*_, _^_, _≤_}
 use native.Mathlib.Nat.{mul-le-mul}
 use native.Mathlib.Omega.{arith}
-use lib.Dec.{T, eqb, leb, leb→le}
+use lib.Dec.{T, leb, leb→le}
 use lib.IntN.{ℤ, pos, negsuc, natAbs, _+ℤ_, _*ℤ_}
 use mir.Syntax.{w64}
 use mir.Val.{SFits}
 use Rattle.whole.specs.Parts.{up, dn}
 use Rattle.whole.proofs.Reflect.{at, add, mul, dif, abs-is, one-zero}
 use Rattle.whole.proofs.Words.{fitsZ, readBack, read-is}
-use Rattle.rules.specs.declared.Setting.{Setting}
-use Rattle.rules.specs.Choice.{choose}
 use Rattle.rules.specs.Matrix.{entry, rowProduct}
 use Rattle.curve.proofs.Tests.{every, nth, passes}
-use Rattle.matrix.specs.Row.{Number, Sum, entryLimit, SmallRow, SmallRows, IsProducts, plain, upper, lower}
-use Rattle.matrix.proofs.Rounding.{sum-fits}
-use Rattle.matrix.specs.Inverse.{logC3Inverse, logC4Inverse, highRows, lowRows}
+use Rattle.rows.specs.Row.{Number, Sum, entryLimit, SmallRow, SmallRows, IsProducts, plain}
 
 -- a product of an entry and a number
 bound : (c x : ℤ) → natAbs c ≤ 2100000 → natAbs x ≤ 2 ^ 40 → (up c * up x + dn c * dn x ≤ 2308974418329600000) × (up c * dn x + dn c * up x ≤ 2308974418329600000)
@@ -50,6 +46,13 @@ module _ (c₀ c₁ c₂ x y z : ℤ) (i₀ : natAbs c₀ ≤ entryLimit) (i₁ 
 -- the row product of a small row is a sum
 pub product-small : (m : List (List ℤ)) (i : ℕ) (x y z : ℤ) → SmallRow m i → Number x → Number y → Number z → Sum (rowProduct (plain m) i x y z)
 product-small m i x y z r = sum-small (entry (plain m) i 0) (entry (plain m) i 1) (entry (plain m) i 2) x y z (r .first) (r .second) (r .third)
+
+-- numbers and sums fit words
+pub number-fits : {x : ℤ} → Number x → SFits w64 x
+number-fits {x} n = fitsZ (at x) (omega (arith, n .small, abs-is x)) (omega (arith, n .small, abs-is x))
+
+pub sum-fits : (p : ℤ) → Sum p → SFits w64 p
+sum-fits p s = fitsZ (at p) (omega (arith, s .small, abs-is p)) (omega (arith, s .small, abs-is p))
 
 -- three row products, as they are read of words
 pub record Read (m : List (List ℤ)) (x y z p q r : ℤ) : Type 0 where
@@ -88,21 +91,3 @@ row-small m i t =
 
 pub rows-small : (m : List (List ℤ)) → T (every (rowSmall m 0)) → T (every (rowSmall m 1)) → T (every (rowSmall m 2)) → SmallRows m
 rows-small m r g b = record { red = row-small m 0 r; green = row-small m 1 g; blue = row-small m 2 b }
-
-pub high-small : (s : Setting) → SmallRows (highRows s)
-high-small s = go (eqb (s .curve) 3)
-  where
-    go : (b : Bool) → SmallRows (map (map (upper 2097152)) (choose b logC3Inverse logC4Inverse))
-    go true = rows-small (map (map (upper 2097152)) logC3Inverse) tt tt tt
-    go false = rows-small (map (map (upper 2097152)) logC4Inverse) tt tt tt
-
-pub low-small : (s : Setting) → SmallRows (lowRows s)
-low-small s = go (eqb (s .curve) 3)
-  where
-    go : (b : Bool) → SmallRows (map (map (lower 2097152)) (choose b logC3Inverse logC4Inverse))
-    go true = rows-small (map (map (lower 2097152)) logC3Inverse) tt tt tt
-    go false = rows-small (map (map (lower 2097152)) logC4Inverse) tt tt tt
-
--- a number fits a word
-pub number-fits : {x : ℤ} → Number x → SFits w64 x
-number-fits {x} n = fitsZ (at x) (omega (arith, n .small, abs-is x)) (omega (arith, n .small, abs-is x))

@@ -10,9 +10,10 @@ use mir.Syntax.{w64}
 use mir.Val.{SFits}
 use Prim.Native.Nat.{_≤_}
 use Rattle.whole.proofs.Words.{readBack, read-back}
-use Rattle.matrix.proofs.Rounding.{binary, more-fits, carried-fits, quotient-small}
-use Rattle.matrix.proofs.over_binary.Statement.{statement}
-use Rattle.matrix.proofs.over_binary.Tie as tie
+use Rattle.rows.proofs.Carries.{more-fits, carried-fits, quotient-small}
+use Rattle.inverse.proofs.Rounding.{binary}
+use Rattle.inverse.proofs.over_binary.Statement.{statement}
+use Rattle.inverse.proofs.over_binary.Tie as tie
 
 -- the carry
 module _ (c : tie.After-floor-div) where

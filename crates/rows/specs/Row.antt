@@ -1,10 +1,9 @@
--- Row products in words: what the entries, the numbers and the sums are at most; and sums that are joined from those of digits.
+-- Row products in words: what the entries, the numbers and the sums are at most, and the three products.
 -- Assumes nothing.
 use mathlib.Core.List.{List}
 use mathlib.Core.Path.{_≡_}
 use Prim.Native.Nat.{ℕ, _^_, _≤_}
-use lib.IntN.{ℤ, pos, natAbs, _+ℤ_, _-ℤ_, _*ℤ_}
-use lib.Signed.{shrZ}
+use lib.IntN.{ℤ, natAbs}
 use Rattle.rules.specs.Matrix.{Matrix, entry, rowProduct}
 
 -- an array of entries over a scale, and with no scale
@@ -20,15 +19,6 @@ pub record Number (x : ℤ) : Type 0 where
 
 pub record Sum (p : ℤ) : Type 0 where
   pub small : natAbs p ≤ 7000000000000000000
-
--- three numbers of which each is at most k without its sign, and the ACES numbers that the way back tries
-pub record Small3 (k : ℕ) (x y z : ℤ) : Type 0 where
-  pub red : natAbs x ≤ k
-  pub green : natAbs y ≤ k
-  pub blue : natAbs z ≤ k
-
-abbrev pub Given : (a b c : ℤ) → Type 0
-Given a b c = Small3 (2 ^ 38) a b c
 
 -- the entries that a sum may have
 abbrev pub entryLimit : ℕ
@@ -49,17 +39,3 @@ pub record IsProducts (m : List (List ℤ)) (x y z p q r : ℤ) : Type 0 where
   pub red-is : p ≡ rowProduct (plain m) 0 x y z
   pub green-is : q ≡ rowProduct (plain m) 1 x y z
   pub blue-is : r ≡ rowProduct (plain m) 2 x y z
-
--- ---- digits: an entry is its upper part times the base and its lower digit, which is not below 0
-abbrev pub upper : (base : ℕ) → ℤ → ℤ
-upper base c = shrZ c base
-
-abbrev pub lower : (base : ℕ) → ℤ → ℤ
-lower base c = c -ℤ pos base *ℤ shrZ c base
-
--- sums of three digits to the base 10 ^ 6, and of two to the base 2 ^ 21, joined
-abbrev pub joined : (h m l : ℤ) → ℤ
-joined h m l = pos 1000000 *ℤ (pos 1000000 *ℤ h +ℤ m) +ℤ l
-
-abbrev pub pair : (h l : ℤ) → ℤ
-pair h l = pos 2097152 *ℤ h +ℤ l

@@ -2,12 +2,12 @@
 -- Assumes nothing.
 use mathlib.Core.Bool.{Bool, true, false}
 use mathlib.Core.List.{List, [], _∷_}
-use mathlib.Core.Path.{_≡_, refl, sym, ap, _∙_, subst}
+use mathlib.Core.Path.{_≡_, refl, sym, _∙_, subst}
 use Prim.Native.Nat.{ℕ, zero, suc, _+_, _*_, _^_, _<_, _≤_}
 use native.Mathlib.Nat.{mul-le-mul-right}
 use native.Mathlib.Omega.{arith}
 use lib.Dec.{T, leb, ltb, eqb, lit<, lit≤, leb→le, ltb→lt}
-use lib.IntN.{ℤ, pos, natAbs, _+ℤ_, _-ℤ_, _*ℤ_}
+use lib.IntN.{ℤ, pos, natAbs, _-ℤ_, _*ℤ_}
 use Rattle.whole.specs.Parts.{up, dn}
 use Rattle.whole.proofs.Floor.{half-bounds}
 use Rattle.whole.proofs.Reflect.{at, add, mul, eqZ}
@@ -16,10 +16,11 @@ use Rattle.rules.specs.declared.Setting.{Setting}
 use Rattle.rules.specs.Choice.{choose}
 use Rattle.rules.specs.Matrix.{Matrix, matrixOf, logC3Matrix, logC4Matrix, acesNumber, IsAces}
 use Rattle.curve.proofs.Tests.{every, nth, passes}
-use Rattle.matrix.specs.Row.{Small3, Given, over}
-use Rattle.matrix.specs.Inverse.{logC3Inverse, logC4Inverse, inverseRows, candidate}
-use Rattle.matrix.proofs.Greys.{nearest-of}
-use Rattle.matrix.proofs.Dot.{Three, three, dot, weight, Near3, dot-near, rowAt, times, before, times-before, scaled, dot-scaled}
+use Rattle.rows.specs.Row.{over}
+use Rattle.rows.proofs.Nearest.{nearest-of}
+use Rattle.inverse.specs.Given.{Small3, Given}
+use Rattle.inverse.specs.Inverse.{logC3Inverse, logC4Inverse, inverseRows, candidate}
+use Rattle.inverse.proofs.Dot.{Three, three, dot, weight, Near3, dot-near, rowAt, times, before, times-before, scaled, dot-scaled}
 
 -- ---- a rounded row, over a scale that is twice half
 module _ (m : List (List ℤ)) (half : ℕ) (p : 0 < half) where

@@ -3,8 +3,8 @@
 use mathlib.Core.Path.{_∙_}
 use lib.Dec.{lit<}
 use Rattle.whole.proofs.Words.{read-back}
-use Rattle.matrix.proofs.products.Statement.{statement}
-use Rattle.matrix.proofs.products.Tie as tie
+use Rattle.rows.proofs.products.Statement.{statement}
+use Rattle.rows.proofs.products.Tie as tie
 
 product-requires : tie.Need-product-requires
 product-requires c κs = rw (read-back (c .fits .x), read-back (c .fits .y), read-back (c .fits .z)) (lit< tt, (c .pre .0 .red, c .pre .1))

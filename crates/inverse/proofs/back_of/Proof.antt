@@ -1,19 +1,18 @@
 -- `back_of` meets its contract: the row products of the digits are joined and rounded once.
 -- Assumes nothing.
-use mathlib.Core.Path.{_≡_, sym, ap, _∙_, subst}
-use mathlib.Core.List.{List}
+use mathlib.Core.Path.{sym, ap, _∙_, subst}
 use borrow.Author.Needs.{needs}
 use lib.Dec.{lit<}
 use lib.IntN.{ℤ}
 use Rattle.whole.proofs.Words.{read-back}
 use Rattle.rules.specs.Fraction.{integer, whole, _/ℚ_, nearest}
 use Rattle.rules.specs.Matrix.{acesNumber}
-use Rattle.matrix.specs.Row.{SmallRows, IsProducts}
-use Rattle.matrix.specs.Inverse.{lowRows, highRows}
-use Rattle.matrix.proofs.Sizes.{Read, read-products, low-small, high-small}
-use Rattle.matrix.proofs.Split.{pair-is}
-use Rattle.matrix.proofs.back_of.Statement.{statement}
-use Rattle.matrix.proofs.back_of.Tie as tie
+use Rattle.rows.specs.Row.{SmallRows}
+use Rattle.rows.proofs.Sizes.{Read, read-products}
+use Rattle.inverse.specs.Inverse.{lowRows, highRows}
+use Rattle.inverse.proofs.Digits.{low-small, high-small, pair-is}
+use Rattle.inverse.proofs.back_of.Statement.{statement}
+use Rattle.inverse.proofs.back_of.Tie as tie
 
 products-requires : tie.Need-products-requires
 products-requires c κs =

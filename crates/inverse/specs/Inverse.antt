@@ -4,11 +4,12 @@
 use mathlib.Core.List.{List, [], _∷_, map}
 use Prim.Native.Nat.{ℕ, _^_}
 use lib.Dec.{eqb}
-use lib.IntN.{ℤ, pos}
+use lib.IntN.{ℤ, pos, _+ℤ_, _*ℤ_}
 use Rattle.rules.specs.declared.Setting.{Setting}
 use Rattle.rules.specs.Choice.{choose}
 use Rattle.rules.specs.Matrix.{Matrix, minus, acesNumber, IsAces}
-use Rattle.matrix.specs.Row.{over, upper, lower}
+use Rattle.rows.specs.Row.{over}
+use Rattle.rows.specs.Digits.{upper, lower}
 
 abbrev pub logC4Inverse : List (List ℤ)
 logC4Inverse =
@@ -33,6 +34,10 @@ highRows s = map (map (upper 2097152)) (inverseRows s)
 
 abbrev pub lowRows : Setting → List (List ℤ)
 lowRows s = map (map (lower 2097152)) (inverseRows s)
+
+-- sums of two such digits, joined
+abbrev pub pair : (h l : ℤ) → ℤ
+pair h l = pos 2097152 *ℤ h +ℤ l
 
 -- the candidate for the scene number of a channel, and for all three
 abbrev pub inverseOf : Setting → Matrix

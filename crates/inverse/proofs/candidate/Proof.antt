@@ -2,10 +2,10 @@
 -- Assumes nothing.
 use native.Mathlib.Omega.{arith}
 use Rattle.whole.proofs.Words.{read-back}
-use Rattle.matrix.specs.Row.{Number}
-use Rattle.matrix.proofs.Sizes.{number-fits}
-use Rattle.matrix.proofs.candidate.Statement.{statement}
-use Rattle.matrix.proofs.candidate.Tie as tie
+use Rattle.rows.specs.Row.{Number}
+use Rattle.rows.proofs.Sizes.{number-fits}
+use Rattle.inverse.proofs.candidate.Statement.{statement}
+use Rattle.inverse.proofs.candidate.Tie as tie
 
 module _ (s : tie.Start) where
   red : Number (s .args .a .red .0)

@@ -1,0 +1,4 @@
+pub mod Rounding
+pub mod Digits
+pub mod Dot
+pub mod Inverse

@@ -1,0 +1,4 @@
+pub mod Sizes
+pub mod Carries
+pub mod Split
+pub mod Nearest
