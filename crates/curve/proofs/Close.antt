@@ -21,7 +21,8 @@ use Rattle.rules.specs.Decoding.{unit, Less, Greater, DecodesPart}
 use Rattle.rules.specs.ExactRow.{Close}
 use Rattle.table.specs.Table.{tableOf}
 use Rattle.curve.specs.Decoded.{decoded}
-use Rattle.curve.proofs.Tests.{Source, every, tests}
+use Rattle.whole.proofs.Tests.{every}
+use Rattle.curve.proofs.Tests.{Source, tests}
 use Rattle.curve.proofs.Right.{divisor}
 use Rattle.curve.proofs.Settings.{sourceOf, passed}
 use Rattle.curve.proofs.Theorems.{decoding}

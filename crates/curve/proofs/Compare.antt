@@ -15,7 +15,8 @@ use Rattle.rules.specs.Exact.{Scale, signal, powerFor}
 use Rattle.rules.proofs.Values.{Ordered, same-value}
 use Rattle.table.specs.Table.{lift}
 use Rattle.curve.proofs.Cleared.{rise, den, below, exponentAt, exponent-is}
-use Rattle.curve.proofs.Tests.{Source, nth, passes, every, tests, b, q, times, kappa, plus-less, minus-less, kappa-positive, lifted}
+use Rattle.whole.proofs.Tests.{nth, passes, every}
+use Rattle.curve.proofs.Tests.{Source, tests, b, q, times, kappa, plus-less, minus-less, kappa-positive, lifted}
 use Rattle.curve.proofs.Law.{base-pos, unit-pos, q-pos}
 
 -- ---- an exponent that was lifted to be positive

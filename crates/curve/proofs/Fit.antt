@@ -22,7 +22,8 @@ use Rattle.curve.specs.Ready.{Ready}
 use Rattle.rules.specs.Exact.{scaleOf}
 use Rattle.table.specs.Table.{tableOf}
 use Rattle.curve.specs.Decoded.{offset, product, Fits, decoderOf, firstOf, biasOf, toeOf, overOf, floor, decodedBy, decoded, raw}
-use Rattle.curve.proofs.Tests.{Source, nth, passes, every, tests, below-at, entries-small, lows-small, toe-small}
+use Rattle.whole.proofs.Tests.{nth, passes, every}
+use Rattle.curve.proofs.Tests.{Source, tests, below-at, entries-small, lows-small, toe-small}
 use Rattle.curve.proofs.Right.{divisor}
 use Rattle.curve.proofs.Program.{top-small, raw-small, number-fits}
 use Rattle.curve.proofs.Settings.{sourceOf, passed}

@@ -16,7 +16,8 @@ use Rattle.power.proofs.Certificate.{below-by, above-by}
 use Rattle.power.proofs.Rows.{In, in-one, in-at, in-squares, in-high, row-at}
 use Rattle.table.specs.Table.{fine}
 use Rattle.curve.specs.Decoded.{product}
-use Rattle.curve.proofs.Tests.{Source, slack, below-at, nth, passes, every, tests, bitsOf, b, by, q, unit, begin, entry, first, base-positive, cancels, entries-small, first-high, first-low, least-large, low-count, low-row, middle-count, middle-row, quotient-positive, ratio-high, ratio-low, scales, top-count, top-row, unit-positive}
+use Rattle.whole.proofs.Tests.{nth, passes, every}
+use Rattle.curve.proofs.Tests.{Source, slack, below-at, tests, bitsOf, b, by, q, unit, begin, entry, first, base-positive, cancels, entries-small, first-high, first-low, least-large, low-count, low-row, middle-count, middle-row, quotient-positive, ratio-high, ratio-low, scales, top-count, top-row, unit-positive}
 
 -- ---- digits and scales
 sums : (m a x y z : ℕ) → m + x * (a * 2 ^ 10) + (0 + y * (a * 2 ^ 5)) + (0 + z * a) ≡ m + (x * 2 ^ 10 + y * 2 ^ 5 + z) * a

@@ -22,7 +22,8 @@ use Rattle.power.proofs.Interval.{below-lt, above-lt}
 use Rattle.table.specs.Table.{lift}
 use Rattle.curve.specs.Decoded.{offset, product, powerRaw, decoderOf}
 use Rattle.curve.proofs.Cleared.{above, exponentAt}
-use Rattle.curve.proofs.Tests.{Source, nth, passes, every, tests, b, by, q, times, kappa, plus-less, minus-less, begin, entry, unit, first, bias, near, far, near-above, near-below}
+use Rattle.whole.proofs.Tests.{nth, passes, every}
+use Rattle.curve.proofs.Tests.{Source, tests, b, by, q, times, kappa, plus-less, minus-less, begin, entry, unit, first, bias, near, far, near-above, near-below}
 use Rattle.curve.proofs.Law.{q-nonzero, law, product-positive}
 use Rattle.curve.proofs.Compare.{kappa-pos, lift-pos, wanted, wanted-is, lifted-ok, by-rules}
 

@@ -20,7 +20,7 @@ use Rattle.rules.specs.Curve.{Constants, logC3, constantsAt, rows}
 use Rattle.rules.specs.Setting.{topOf, Valid}
 use Rattle.rules.specs.Exact.{Scale, scaleOf}
 use Rattle.rules.proofs.Settings.{for-valid}
-use Rattle.power.proofs.Certificate.{both, both-left, both-right}
+use Rattle.whole.proofs.Tests.{both, both-left, both-right}
 use Rattle.curve.specs.Constants.{Small}
 use Rattle.rules.specs.declared.Setting.{Setting}
 use Rattle.curve.specs.declared.decoder.Decoder.{Decoder}

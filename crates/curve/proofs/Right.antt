@@ -18,7 +18,8 @@ use Rattle.table.specs.Table.{fine}
 use Rattle.curve.specs.declared.decoder.Decoder.{Decoder}
 use Rattle.curve.specs.Gap.{gap}
 use Rattle.curve.specs.Decoded.{offset, product, toeRaw, powerRaw, rawBy, decoderOf, firstOf, toeOf, overOf}
-use Rattle.curve.proofs.Tests.{Source, nth, passes, every, tests, toeTests, first, bias, ratio-above-one, steps, toe-right, toe-added, toe-divisor, toe-steps, border-rises}
+use Rattle.whole.proofs.Tests.{nth, passes, every}
+use Rattle.curve.proofs.Tests.{Source, tests, toeTests, first, bias, ratio-above-one, steps, toe-right, toe-added, toe-divisor, toe-steps, border-rises}
 use Rattle.curve.proofs.Law.{no-less, next-low}
 use Rattle.curve.proofs.Near.{below-exact, above-exact}
 use Rattle.curve.proofs.Toe.{toe-code, power-code, toe-number}

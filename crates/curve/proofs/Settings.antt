@@ -11,7 +11,8 @@ use Rattle.rules.proofs.Settings.{forSettings, for-valid}
 use Rattle.table.specs.Seeds.{Seed, logC4Seed, logC3First, logC3Seeds}
 use Rattle.table.specs.Table.{seedAt, ratioOf, shiftOf, logC3Table, logC4Table, tableOf}
 use Rattle.curve.specs.Decoded.{rawBy}
-use Rattle.curve.proofs.Tests.{Source, every, tests}
+use Rattle.whole.proofs.Tests.{every}
+use Rattle.curve.proofs.Tests.{Source, tests}
 
 abbrev seedOf : Setting → Seed
 seedOf s = choose (eqb (s .curve) 3) (seedAt (s .ei) logC3First logC3Seeds) logC4Seed

@@ -1,6 +1,6 @@
 -- What is computed of a scale and its table, as one list of tests, and what a passed test shows.
 -- Assumes nothing.
-use mathlib.Core.Bool.{Bool, true, false}
+use mathlib.Core.Bool.{Bool, true}
 use mathlib.Core.List.{List, [], _∷_}
 use Prim.Native.Nat.{ℕ, zero, suc, _+_, _-_, _*_, _/_, _%_, _^_, _<_}
 use lib.Dec.{T, leb, ltb, eqb, ltb→lt}
@@ -10,29 +10,13 @@ use Rattle.rules.specs.Curve.{Curve, logC4, logC3, base, less, factor}
 use Rattle.rules.specs.Exact.{Scale}
 use Rattle.rules.specs.Decoding.{nearness}
 use Rattle.power.specs.Progression.{squareDown, squareUp}
-use Rattle.power.proofs.Certificate.{both, both-left, both-right, up-run, down-run}
+use Rattle.whole.proofs.Tests.{both, both-left, both-right, every}
+use Rattle.power.proofs.Certificate.{up-run, down-run}
 use Rattle.power.proofs.Rows.{row}
 use Rattle.table.specs.Table.{lift, fine}
 use Rattle.curve.specs.Gap.{gap}
 use Rattle.curve.specs.Decoded.{offset, product, rawBy, decoderOf, firstOf, biasOf, toeOf}
 use Rattle.curve.proofs.Cleared.{rise, exponentAt}
-
--- ---- lists of tests
-abbrev pub every : List Bool → Bool
-every [] = true
-every (x ∷ xs) = both x (every xs)
-
-unfoldable pub nth : List Bool → ℕ → Bool
-nth [] k = true
-nth (x ∷ xs) zero = x
-nth (x ∷ xs) (suc k) = nth xs k
-
--- the k-th test of a passed list
-pub passes : (xs : List Bool) → T (every xs) → (k : ℕ) → T (nth xs k)
-unfolding nth
-passes [] h k = tt
-passes (x ∷ xs) h zero = both-left x (every xs) h
-passes (x ∷ xs) h (suc k) = passes xs (both-right x (every xs) h) k
 
 -- every number of a list is below m
 abbrev pub allBelow : ℕ → List ℕ → Bool

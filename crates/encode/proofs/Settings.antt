@@ -8,7 +8,7 @@ use Rattle.rules.specs.Exact.{scaleOf}
 use Rattle.rules.proofs.Settings.{forSettings, for-valid}
 use Rattle.table.specs.Table.{logC3Table, logC4Table, tableOf}
 use Rattle.curve.specs.Decoded.{rawBy}
-use Rattle.curve.proofs.Tests.{every}
+use Rattle.whole.proofs.Tests.{every}
 use Rattle.curve.proofs.Settings.{sourceOf}
 use Rattle.encode.proofs.ThirdTests.{thirdTests}
 

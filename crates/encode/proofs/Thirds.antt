@@ -25,7 +25,8 @@ use Rattle.power.proofs.Rows.{In, in-mul}
 use Rattle.table.specs.Table.{lift, fine}
 use Rattle.curve.specs.Decoded.{offset, product, rawBy, decoderOf, firstOf, toeOf, overOf}
 use Rattle.curve.proofs.Cleared.{exponentAt}
-use Rattle.curve.proofs.Tests.{Source, slack, nth, passes, every, tests, b, by, q, times, kappa, plus-less, minus-less, begin, entry, unit, first, bias}
+use Rattle.whole.proofs.Tests.{nth, passes, every}
+use Rattle.curve.proofs.Tests.{Source, slack, tests, b, by, q, times, kappa, plus-less, minus-less, begin, entry, unit, first, bias}
 use Rattle.curve.proofs.Law as law
 use Rattle.curve.proofs.Right.{raw-toe, raw-power, passed, failed, room, divisor}
 use Rattle.curve.proofs.Compare.{wanted, wanted-is, lifted-ok, by-rules}

@@ -15,7 +15,7 @@ use Rattle.whole.proofs.Near.{Near, near-of, of-near, near-join, near-mul, near
 use Rattle.rules.specs.declared.Setting.{Setting}
 use Rattle.rules.specs.Choice.{choose}
 use Rattle.rules.specs.Matrix.{Matrix, matrixOf, logC3Matrix, logC4Matrix, acesNumber, IsAces}
-use Rattle.curve.proofs.Tests.{every, nth, passes}
+use Rattle.whole.proofs.Tests.{every, nth, passes}
 use Rattle.rows.specs.Row.{over}
 use Rattle.rows.proofs.Nearest.{nearest-of}
 use Rattle.inverse.specs.Given.{Small3, Given}

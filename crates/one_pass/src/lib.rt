@@ -24,13 +24,6 @@ const TO: usize = 10;
 // The bytes of the buffer: as many pixel records as a strip may have here.
 const BUFFER: usize = 40960;
 
-// The setting that the pass begins with, before the first record's.
-const FIRST: Setting = Setting {
-    curve: 4,
-    width: 12,
-    ei: 0,
-};
-
 // An ACES record: its check, refusal 10, and where it passes the record of the pixel that gives it.
 fn convert_record(s: Setting, d: Decoder, t: &[u64; 128], r: &[u8], out: &mut [u8]) -> Check
     requires { ⌜ Ready s d (now t) ⌝ }
@@ -54,7 +47,7 @@ fn fill(input: &[u8], n: usize, buffer: &mut [u8]) -> Answer
     ensures { λ a. ⌜ a ≡ scanOf acesToPixel n (now (input .entry)) ⌝ }
     ensures { λ a. ⌜ Kept (now (input .entry)) a (now (buffer .exit)) ⌝ }
 {
-    let mut s = FIRST;
+    let mut s = passes::FIRST;
     let mut d = Decoder::new(s);
     let mut t = table::table(s);
     let mut i = 0;

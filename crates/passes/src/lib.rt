@@ -13,7 +13,7 @@ use rules::Check;
 use rules::Setting;
 
 // The setting that a pass begins with, before the first record's.
-const FIRST: Setting = Setting {
+pub const FIRST: Setting = Setting {
     curve: 4,
     width: 12,
     ei: 0,

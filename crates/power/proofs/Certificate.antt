@@ -1,28 +1,17 @@
 -- That x / s is below or above b ^ (m / q), by the power (x / s) ^ q computed with rounding: squares and products at the scale s,
 -- a factor b put aside as soon as there is one. No q-th power is ever formed.
 -- Assumes nothing.
-use mathlib.Core.Path.{_≡_, refl, sym, ap, ap₂, _∙_, subst}
+use mathlib.Core.Path.{_≡_, sym, ap, _∙_, subst}
 use mathlib.Core.Bool.{Bool, true, false}
 use mathlib.Core.List.{List, [], _∷_}
-use Prim.Native.Nat.{ℕ, zero, suc, _+_, _-_, _*_, _/_, _^_, _≤_, _<_}
-use native.Mathlib.Nat.{le-refl, le-trans, le-of-eq, le-of-lt, mul-assoc, mul-comm, mul-left-comm, mul-one, one-mul, mul-mul-mul-comm, mul-le-mul, mul-le-mul-left, mul-le-mul-right, le-of-mul-le-mul-right, one-le-pow, mul-pos, pow-zero, pow-suc, div-mul-le-self, lt-mul-div-succ}
+use Prim.Native.Nat.{ℕ, zero, _+_, _-_, _*_, _/_, _^_, _≤_, _<_}
+use native.Mathlib.Nat.{le-refl, le-trans, le-of-eq, le-of-lt, mul-assoc, mul-comm, mul-left-comm, mul-mul-mul-comm, mul-le-mul, mul-le-mul-left, mul-le-mul-right, le-of-mul-le-mul-right, one-le-pow, mul-pos, div-mul-le-self, lt-mul-div-succ}
 use native.Mathlib.Omega.{arith}
 use lib.Dec.{T, leb, eqb, leb→le, eqb→eq}
 use lib.Pow.{pow-add}
 use Rattle.whole.proofs.Powers.{pow-one}
+use Rattle.whole.proofs.Tests.{both, both-left, both-right}
 use Rattle.power.specs.Power.{Below, below, Above, above}
-
-abbrev pub both : Bool → Bool → Bool
-both true c = c
-both false c = false
-
-pub both-left : (a c : Bool) → T (both a c) → T a
-both-left true c t = tt
-both-left false c t = t
-
-pub both-right : (a c : Bool) → T (both a c) → T c
-both-right true c t = t
-both-right false c t = absurd t
 
 -- (x / s) ^ k is at most b ^ e * z / s
 data Up (b x s k e z : ℕ) : Type 0 where

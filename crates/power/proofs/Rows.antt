@@ -1,7 +1,7 @@
 -- A row of a table: entry k stands for b ^ ((m + k * a) / q), rounded down. One test, computed over the row, shows it of every entry.
 -- Assumes nothing.
-use mathlib.Core.Path.{_≡_, refl, sym, ap, _∙_, subst}
-use mathlib.Core.Bool.{Bool, true, false}
+use mathlib.Core.Path.{_≡_, sym, ap, _∙_, subst}
+use mathlib.Core.Bool.{Bool, true}
 use mathlib.Core.List.{List, [], _∷_}
 use Prim.Native.Nat.{ℕ, zero, suc, _+_, _-_, _*_, _/_, _^_, _≤_, _<_}
 use native.Mathlib.Nat.{le-trans, le-of-eq, le-of-lt, mul-assoc, mul-comm, mul-left-comm, mul-le-mul-right, mul-le-mul-left, mul-pos, div-mul-le-self, lt-mul-div-succ, zero-mul, add-zero, suc-mul, mul-one, not-suc-le-zero, le-of-suc-le-suc, pow-zero, pow-suc, add-assoc, add-comm, two-mul, add-mul, mul-add, one-mul, lt-div-mul-add}
@@ -9,10 +9,10 @@ use native.Mathlib.Numerals.{add-one}
 use native.Mathlib.Omega.{arith}
 use lib.Dec.{T, leb, leb→le}
 use lib.ListN.{length, getD}
-use Rattle.power.specs.Power.{Below, below, Above, above}
+use Rattle.power.specs.Power.{Below, Above}
 use Rattle.power.specs.Progression.{squareDown, squareUp}
 use Rattle.power.proofs.Interval.{below-mul, above-mul, below-le, above-le, below-one, above-one}
-use Rattle.power.proofs.Certificate.{both, both-left, both-right}
+use Rattle.whole.proofs.Tests.{both, both-left, both-right}
 
 -- b ^ (m / q) lies from lo / s to hi / s
 pub record In (b q m lo hi s : ℕ) : Type 0 where

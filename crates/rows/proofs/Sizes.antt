@@ -14,7 +14,7 @@ use Rattle.whole.specs.Parts.{up, dn}
 use Rattle.whole.proofs.Reflect.{at, add, mul, dif, abs-is, one-zero}
 use Rattle.whole.proofs.Words.{fitsZ, readBack, read-is}
 use Rattle.rules.specs.Matrix.{entry, rowProduct}
-use Rattle.curve.proofs.Tests.{every, nth, passes}
+use Rattle.whole.proofs.Tests.{every, nth, passes}
 use Rattle.rows.specs.Row.{Number, Sum, entryLimit, SmallRow, SmallRows, IsProducts, plain}
 
 -- a product of an entry and a number

@@ -6,3 +6,4 @@ pub mod Tidy
 pub mod Sizes
 pub mod Words
 pub mod Near
+pub mod Tests
