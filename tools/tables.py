@@ -1,6 +1,7 @@
 #!/usr/bin/env python3
-"""tables.py [--check]: write the seeds of the curves' tables (crates/table/specs/Seeds.antt) and the tables themselves
-(crates/table/src/values.rt), or with --check say whether the committed files are what this prints.
+"""tables.py [--check]: write the seeds of the curves' tables (crates/table/specs/Seeds.antt), the tables themselves
+(crates/table/src/values.rt) and the lines of the search's guess (crates/search/src/lines.rt), or with --check say whether the committed
+files are what this prints.
 
 The decimals are read from the rules (crates/rules/specs/Curve.antt), so that they stand in one place. A seed is a power with
 a fractional exponent at the scale 2^128, rounded down, and lowered until repeated squaring with rounding shows that it is
@@ -133,7 +134,45 @@ def written():
         "logC3Seeds =\n    " + "\n    ∷ ".join(seeds[2:]) + "\n    ∷ []\n"
     )
     rt = "// The tables of the curves, one for each setting. Written by tools/tables.py.\n" + "".join(consts)
-    return {"crates/table/specs/Seeds.antt": antt, "crates/table/src/values.rt": rt}
+    return {"crates/table/specs/Seeds.antt": antt, "crates/table/src/values.rt": rt, "crates/search/src/lines.rt": lines()}
+
+
+def line(curve):
+    """where z is 2^53 * base ^ exponent * times / timesOver, the signal is a line in log2(z): its slope, and what is taken off"""
+    two = Decimal(2).ln()
+    slope = curve.over / (curve.rise * Decimal(curve.base).ln() / two)
+    start = slope * (53 + (Decimal(curve.times) / curve.times_over).ln() / two) - Decimal(curve.minus - curve.plus) / curve.rise
+    return round(slope * 2 ** 32), round(start * 2 ** 48)
+
+
+def lines():
+    consts, arms = "", ""
+    for c in curves():
+        name = "LOG_C4" if c.ei == 0 else c.name
+        slope, start = line(c)
+        consts += f"    pub const {name}: Line = Line {{\n        slope: {slope},\n        start: {start},\n    }};\n\n"
+        arms += f"            {c.ei} => Line::{name},\n" if c.ei else ""
+    return (
+        "// The lines of the guess, one for each curve. Written by tools/tables.py.\n"
+        "ghost use Prim.Native.Nat.{_^_, _<_};\n"
+        "\n"
+        "// Above the toe a code's number, less the decoder's bias, is a number z over 2^29, and the signal is slope * log2(z) - start. The slope is\n"
+        "// in units of 2^-32, the start in units of 2^-48.\n"
+        "pub struct Line {\n    pub slope: u64,\n    pub start: u64,\n}\n"
+        "\n"
+        "impl Line {\n"
+        f"{consts}"
+        "    // The line of an EI. Curve 4's EI is 0.\n"
+        "    pub fn of(ei: u16) -> Line\n"
+        "        ensures { λ k. ⌜ k .slope < 2 ^ 29 ⌝ }\n"
+        "    {\n"
+        "        match ei {\n"
+        f"{arms}"
+        "            _ => Line::LOG_C4,\n"
+        "        }\n"
+        "    }\n"
+        "}\n"
+    )
 
 
 def main():

@@ -1,6 +1,7 @@
 // A guess at the code of a number y, which has the offset. Nothing but speed rests on it: the search ends at the same code wherever it begins.
 // (The remainders change no number that occurs. They show that products fit words.)
 ghost use Prim.Native.Nat.{_^_, _≤_, _<_};
+use super::lines::Line;
 use curve::decoder::Decoder;
 use rules::Setting;
 
@@ -32,70 +33,6 @@ fn log2(z: u64) -> u64
     let zeros = u64::leading_zeros(z) % 64;
     let m = (z << zeros) / 140737488355328 % 65536;
     (63 - zeros) as u64 * 65536 + m + bend(m)
-}
-
-// A line in log2: the signal is slope * log2 - start. The slope is in units of 2^-32, the start in units of 2^-48.
-struct Line {
-    slope: u64,
-    start: u64,
-}
-
-// Above the toe the signal is a line in log2(z), where z is 2^53 * (x + b / a), by which curve 3 has t = c * log10(a * x + b) + d, and curve 4
-// t = (95 + 928 * (P - 6) / 14) / 1023 with 2^P = a * x + b, where a is 1747520 / 783. So the slopes are c * log10(2) and 928 / 14 / 1023, and
-// z is 2^53 / a where the logarithm is 0. Curve 4's EI is 0.
-fn line_of(ei: u16) -> Line
-    ensures { λ k. ⌜ k .slope < 2 ^ 29 ⌝ }
-{
-    match ei {
-        160 => Line {
-            slope: 347840407,
-            start: 1044274836975160,
-        },
-        200 => Line {
-            slope: 343924171,
-            start: 1031170017128730,
-        },
-        250 => Line {
-            slope: 340007934,
-            start: 1018064915807323,
-        },
-        320 => Line {
-            slope: 335675380,
-            start: 1003566069847556,
-        },
-        400 => Line {
-            slope: 331759143,
-            start: 990460124101219,
-        },
-        500 => Line {
-            slope: 327842907,
-            start: 977353333929952,
-        },
-        640 => Line {
-            slope: 323511645,
-            start: 962857361790921,
-        },
-        800 => Line {
-            slope: 319595408,
-            start: 949749727194724,
-        },
-        1000 => Line {
-            slope: 315679172,
-            start: 936641529648573,
-        },
-        1280 => Line {
-            slope: 311346617,
-            start: 922139305989086,
-        },
-        1600 => Line {
-            slope: 307430381,
-            start: 909029982543029,
-        },
-        _ => Line {
-            slope: 278294208,
-            start: 847037242980705,
-        },
-    }
 }
 
 // The code nearest to the signal of z.
@@ -147,5 +84,5 @@ pub fn guess(s: Setting, d: Decoder, top: u64, y: u64) -> u64
     if 8589934592 <= y {
         return top;
     }
-    above_toe(line_of(s.ei), d, top, y)
+    above_toe(Line::of(s.ei), d, top, y)
 }

@@ -5,6 +5,7 @@ ghost use Rattle.curve.specs.Decoded.{rawBy};
 ghost use Rattle.search.specs.Search.{Rising, Found};
 
 mod guess;
+mod lines;
 
 use curve::decoder::Decoder;
 use rules::Setting;
