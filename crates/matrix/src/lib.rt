@@ -43,7 +43,7 @@ fn over_million(p: i64) -> i64
     requires { ⌜ Sum p ⌝ }
     ensures { λ r. ⌜ r ≡ nearest (integer p /ℚ whole (10 ^ 6)) ⌝ }
 {
-    whole::floor_div(p + 500000, 1000000)
+    whole::floor_million(p + 500000)
 }
 
 // A row product over 10^18, of which l, m and h are those of the digits, rounded once.
@@ -53,9 +53,9 @@ fn over_digits(l: i64, m: i64, h: i64) -> i64
     requires { ⌜ Sum h ⌝ }
     ensures { λ r. ⌜ r ≡ nearest (integer (joined h m l) /ℚ whole (10 ^ 18)) ⌝ }
 {
-    let carry = whole::floor_div(l, 1000000);
-    let second = whole::floor_div(m + carry, 1000000);
-    whole::floor_div(h + second + 500000, 1000000)
+    let carry = whole::floor_million(l);
+    let second = whole::floor_million(m + carry);
+    whole::floor_million(h + second + 500000)
 }
 
 fn aces_c3(x: i64, y: i64, z: i64) -> Numbers

@@ -18,7 +18,7 @@ use Rattle.whole.proofs.Tests.{every, nth, passes}
 use Rattle.rows.specs.Row.{Number, Sum, entryLimit, SmallRow, SmallRows, IsProducts, plain}
 
 -- a product of an entry and a number
-bound : (c x : ℤ) → natAbs c ≤ 2100000 → natAbs x ≤ 2 ^ 40 → (up c * up x + dn c * dn x ≤ 2308974418329600000) × (up c * dn x + dn c * up x ≤ 2308974418329600000)
+bound : (c x : ℤ) → natAbs c ≤ 2100000 → natAbs x ≤ 2 ^ 38 → (up c * up x + dn c * dn x ≤ 577243604582400000) × (up c * dn x + dn c * up x ≤ 577243604582400000)
 bound (pos c) (pos x) h o = let p = mul-le-mul h o in (omega arith, omega arith)
 bound (pos c) (negsuc x) h o = let p = mul-le-mul h o in (omega arith, omega arith)
 bound (negsuc c) (pos x) h o = let p = mul-le-mul h o in (omega arith, omega arith)

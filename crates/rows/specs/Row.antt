@@ -15,10 +15,10 @@ plain m = over 1 m
 
 -- what the numbers and the sums are at most
 pub record Number (x : ℤ) : Type 0 where
-  pub small : natAbs x ≤ 2 ^ 40
+  pub small : natAbs x ≤ 2 ^ 38
 
 pub record Sum (p : ℤ) : Type 0 where
-  pub small : natAbs p ≤ 7000000000000000000
+  pub small : natAbs p ≤ 1750000000000000000
 
 -- the entries that a sum may have
 abbrev pub entryLimit : ℕ

@@ -1,7 +1,7 @@
 // Whole numbers: the upper half of a product of two words, a number without its sign, and a quotient rounded down. (proofs/ has the laws of ℤ that the other
 // crates cite.)
 ghost use mathlib.Core.Path.{_≡_};
-ghost use Prim.Native.Nat.{_*_, _/_, _^_};
+ghost use Prim.Native.Nat.{_*_, _/_, _^_, _≤_};
 ghost use lib.IntN.{pos, natAbs};
 ghost use lib.Signed.{_<ℤ_, shrZ};
 ghost use Rattle.whole.specs.Parts.{up};
@@ -33,4 +33,12 @@ pub fn floor_div(x: i64, m: i64) -> i64
     ensures { λ r. ⌜ r ≡ shrZ x (up m) ⌝ }
 {
     if x < 0 { -1 - (-1 - x) / m } else { x / m }
+}
+
+// x over 10^6, rounded down. With 2 * 10^18 added there is no sign to look at.
+pub fn floor_million(x: i64) -> i64
+    requires { ⌜ natAbs x ≤ 2 * 10 ^ 18 ⌝ }
+    ensures { λ r. ⌜ r ≡ shrZ x 1000000 ⌝ }
+{
+    ((x + 2000000000000000000) as u64 / 1000000) as i64 - 2000000000000
 }
