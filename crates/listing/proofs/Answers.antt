@@ -12,8 +12,10 @@ use Rattle.rules.specs.Choice.{choose}
 use Rattle.rules.specs.Strip.{records}
 use Rattle.text.specs.Put.{Room, Put}
 use Rattle.text.proofs.Putting.{room-next, put-both}
-use Rattle.listing.specs.Line.{longest, longestTail, lines, tailLine, enough, listed, textFor, Lists}
-use Rattle.listing.proofs.Lengths.{lines-long, tail-long}
+use Rattle.lines.specs.Line.{tailLine, longest, longestTail}
+use Rattle.lines.proofs.Lengths.{tail-long}
+use Rattle.listing.specs.Listed.{lines, enough, listed, textFor, Lists}
+use Rattle.listing.proofs.Lengths.{lines-long}
 
 none : (k : ℕ) (input output : List ℕ) → enough k input output ≡ false → Lists k input output 0 output
 unfolding textFor

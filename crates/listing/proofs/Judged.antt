@@ -11,8 +11,8 @@ use Rattle.rules.specs.Record.{settingOf}
 use Rattle.wayback.specs.Back.{pixelAces}
 use Rattle.rules.specs.Contents.{pixelIn}
 use Rattle.conversion.specs.Conversions.{pixelToAces}
-use Rattle.listing.specs.declared.Outcome.the-variants.{Aces, Refused}
-use Rattle.listing.specs.Line.{outcomeOf}
+use Rattle.lines.specs.declared.Outcome.the-variants.{Aces, Refused}
+use Rattle.listing.specs.Listed.{outcomeOf}
 
 module _ (r : List ℕ) where
   pub setting-refused : {why : Refusal} → settingCheck (settingOf r) ≡ check.Check.Refused why → Refused why ≡ outcomeOf r

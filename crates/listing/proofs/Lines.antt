@@ -1,4 +1,4 @@
--- The parts of a line, of lines, and of the text of bytes.
+-- Lines, one record after the other.
 -- Assumes nothing.
 use mathlib.Core.Path.{_≡_, refl, ap}
 use mathlib.Core.List.{List, [], _∷_, _++_, append-assoc, append-nil}
@@ -6,28 +6,11 @@ use Prim.Native.Nat.{ℕ, zero, suc, _+_}
 use native.Mathlib.Nat.{add-zero}
 use native.Mathlib.Omega.{arith}
 use lib.ListN.{length, drop}
-use borrow.Author.Tests.{eq-eqb, ne-eqb}
 use Rattle.rules.specs.Strip.{records}
 use Rattle.passes.proofs.Cut.{cut, records-more}
-use Rattle.text.specs.Decimal.{decimal}
-use Rattle.text.specs.Put.{followed}
-use Rattle.listing.specs.declared.Outcome.{Outcome}
-use Rattle.listing.specs.declared.Outcome.the-variants.{Aces, Refused}
-use Rattle.listing.specs.Line.{lineOf, words, line, outcomeOf, lines, tail, tailLine}
+use Rattle.lines.specs.Line.{line}
+use Rattle.listing.specs.Listed.{outcomeOf, lines}
 
--- a line is its index with the space behind it, and the words of the record
-pub line-parts : (k : ℕ) (o : Outcome) → line k o ≡ followed (decimal k) 32 ++ lineOf (words o)
-line-parts k (Aces a) = refl
-line-parts k (Refused why) = refl
-
--- no tail, and some
-pub tail-none : (n : ℕ) → n ≡ 0 → tailLine n ≡ []
-tail-none n e = rw (eq-eqb n 0 e)
-
-pub tail-some : (n : ℕ) → (n ≡ 0 → ⊥) → tailLine n ≡ lineOf (tail ∷ decimal n ∷ [])
-tail-some n e = rw (ne-eqb n 0 e)
-
--- ---- lines, one record after the other
 pub lines-append : (k : ℕ) (xs ys : List (List ℕ)) → lines k (xs ++ ys) ≡ lines k xs ++ lines (k + length xs) ys
 unfolding lines
 lines-append k [] ys = rw add-zero

@@ -10,7 +10,8 @@ use Rattle.rules.specs.Strip.{records}
 use Rattle.passes.proofs.Cut.{cut}
 use Rattle.text.specs.Put.{Room, Put}
 use Rattle.text.proofs.Putting.{put-none, put-both, put-length}
-use Rattle.listing.specs.Line.{longest, outcomeOf, line, lines}
+use Rattle.lines.specs.Line.{line, longest}
+use Rattle.listing.specs.Listed.{outcomeOf, lines}
 use Rattle.listing.proofs.Lengths.{line-long, lines-long}
 use Rattle.listing.proofs.Lines.{lines-none, lines-more}
 

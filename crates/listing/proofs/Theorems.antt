@@ -7,8 +7,9 @@ use native.Mathlib.Omega.{arith}
 use lib.ListN.{length, drop, length-append}
 use Rattle.rules.specs.Strip.{records}
 use Rattle.passes.proofs.Cut.{records-append}
-use Rattle.listing.specs.Line.{lines, listed, textFor, Lists}
-use Rattle.listing.proofs.Lines.{lines-append, length-records, tail-none}
+use Rattle.lines.proofs.Parts.{tail-none}
+use Rattle.listing.specs.Listed.{lines, listed, textFor, Lists}
+use Rattle.listing.proofs.Lines.{lines-append, length-records}
 
 -- THE PIECES: a piece of m whole records, and what follows it, whose first record has the index k + m
 module _ (k m : ℕ) (a b : List ℕ) (whole : length a ≡ m * 10) where

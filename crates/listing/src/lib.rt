@@ -6,16 +6,13 @@ ghost use Rattle.rules.specs.Setting.{Valid};
 ghost use Rattle.rules.specs.Record.{settingOf};
 ghost use Rattle.rules.specs.Strip.{records};
 ghost use Rattle.text.specs.Put.{Put};
-ghost use Rattle.listing.specs.Line.{size, longest, outcomeOf, lines, Lists};
-
-mod line;
-
+ghost use Rattle.lines.specs.Line.{longest};
+ghost use Rattle.listing.specs.Listed.{size, outcomeOf, lines, Lists};
 use conversion::Kind;
 use curve::decoder::Decoder;
+use lines::Outcome;
 use rules::Check;
-use rules::Refusal;
 use rules::Setting;
-use rules::Triple;
 
 // The bytes of a pixel record, of the longest line, and of the longest line of a tail.
 const RECORD: usize = 10;
@@ -23,12 +20,6 @@ const RECORD: usize = 10;
 const LONGEST: usize = 66;
 
 const LONGEST_TAIL: usize = 7;
-
-// What becomes of a record: three ACES numbers, or the refusal.
-pub enum Outcome {
-    Aces(Triple),
-    Refused(Refusal),
-}
 
 fn judge_valid(s: Setting, r: &[u8]) -> Outcome
     requires { ⌜ Valid s ⌝ }
@@ -65,7 +56,7 @@ fn put_lines(first: u64, input: &[u8], n: usize, out: &mut [u8]) -> usize
     while i < n {
         let a = i * RECORD;
         let o = judge(&input[a..a + RECORD]);
-        at = line::put_line(out, at, first + i as u64, o);
+        at = lines::put_line(out, at, first + i as u64, o);
         i += 1;
     }
     at
@@ -87,5 +78,5 @@ pub fn list(first: u64, input: &[u8], out: &mut [u8]) -> usize
         return 0;
     }
     let at = put_lines(first, input, n, out);
-    line::put_tail(out, at, input.len() % RECORD)
+    lines::put_tail(out, at, input.len() % RECORD)
 }

@@ -5,7 +5,7 @@ use native.Mathlib.Omega.{arith}
 use lib.ListN.{length}
 use denote.Ref.{now}
 use borrow.Author.Needs.{needs}
-use Rattle.listing.specs.Line.{longest, longestTail}
+use Rattle.lines.specs.Line.{longest, longestTail}
 use Rattle.listing.proofs.Answers.{no-room, no-index, lower-room, all-listed}
 use Rattle.listing.proofs.list.Statement.{statement}
 use Rattle.listing.proofs.list.Tie as tie

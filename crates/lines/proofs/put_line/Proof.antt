@@ -7,11 +7,11 @@ use borrow.Author.Needs.{needs}
 use Rattle.text.specs.Decimal.{decimal}
 use Rattle.text.specs.Put.{followed, Room}
 use Rattle.text.proofs.Putting.{room-first, room-next, put-both}
-use Rattle.listing.specs.declared.Outcome.{Outcome}
-use Rattle.listing.specs.Line.{lineOf, words}
-use Rattle.listing.proofs.Lines.{line-parts}
-use Rattle.listing.proofs.line.put_line.Statement.{statement}
-use Rattle.listing.proofs.line.put_line.Tie as tie
+use Rattle.lines.specs.declared.Outcome.{Outcome}
+use Rattle.lines.specs.Line.{lineOf, words}
+use Rattle.lines.proofs.Parts.{line-parts}
+use Rattle.lines.proofs.put_line.Statement.{statement}
+use Rattle.lines.proofs.put_line.Tie as tie
 
 abbrev index : tie.Start → List ℕ
 index s = followed (decimal (s .args .index)) 32

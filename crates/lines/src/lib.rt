@@ -1,14 +1,19 @@
-// The lister's lines: a record's, and that of the bytes short of a record.
+// The lister's lines: a record's outcome, and the bytes short of a record, as text.
 ghost use Rattle.text.specs.Put.{Room, Put};
-ghost use Rattle.listing.specs.declared.Outcome.the-variants.{Aces, Refused};
-ghost use Rattle.listing.specs.Line.{lineOf, words, line, tailLine};
-use super::Outcome;
+ghost use Rattle.lines.specs.declared.Outcome.the-variants.{Aces, Refused};
+ghost use Rattle.lines.specs.Line.{lineOf, words, line, tailLine};
 use rules::Refusal;
 use rules::Triple;
 
 const SPACE: u8 = 32;
 
 const NEWLINE: u8 = 10;
+
+// What becomes of a record: three ACES numbers, or the refusal.
+pub enum Outcome {
+    Aces(Triple),
+    Refused(Refusal),
+}
 
 // `ok` and three ACES numbers, to the end of the line.
 fn put_ok(out: &mut [u8], at: usize, a: Triple) -> usize

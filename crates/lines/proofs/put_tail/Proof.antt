@@ -7,10 +7,10 @@ use borrow.Author.Needs.{needs}
 use Rattle.text.specs.Decimal.{decimal}
 use Rattle.text.specs.Put.{followed, Room}
 use Rattle.text.proofs.Putting.{put-none, room-first, room-next, put-both}
-use Rattle.listing.specs.Line.{tail}
-use Rattle.listing.proofs.Lines.{tail-none, tail-some}
-use Rattle.listing.proofs.line.put_tail.Statement.{statement}
-use Rattle.listing.proofs.line.put_tail.Tie as tie
+use Rattle.lines.specs.Line.{tail}
+use Rattle.lines.proofs.Parts.{tail-none, tail-some}
+use Rattle.lines.proofs.put_tail.Statement.{statement}
+use Rattle.lines.proofs.put_tail.Tie as tie
 
 abbrev word : List ℕ
 word = followed tail 32

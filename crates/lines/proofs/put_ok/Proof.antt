@@ -9,9 +9,9 @@ use Rattle.whole.proofs.Words.{read-back}
 use Rattle.text.specs.Decimal.{signed}
 use Rattle.text.specs.Put.{followed, Room}
 use Rattle.text.proofs.Putting.{room-first, room-next, put-both}
-use Rattle.listing.specs.Line.{ok}
-use Rattle.listing.proofs.line.put_ok.Statement.{statement}
-use Rattle.listing.proofs.line.put_ok.Tie as tie
+use Rattle.lines.specs.Line.{ok}
+use Rattle.lines.proofs.put_ok.Statement.{statement}
+use Rattle.lines.proofs.put_ok.Tie as tie
 
 abbrev word : List ℕ
 word = followed ok 32

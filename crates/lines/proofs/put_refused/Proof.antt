@@ -7,9 +7,9 @@ use Rattle.rules.specs.Refusal.{numberOf}
 use Rattle.text.specs.Decimal.{decimal}
 use Rattle.text.specs.Put.{followed}
 use Rattle.text.proofs.Putting.{room-next, put-both}
-use Rattle.listing.specs.Line.{refused}
-use Rattle.listing.proofs.line.put_refused.Statement.{statement}
-use Rattle.listing.proofs.line.put_refused.Tie as tie
+use Rattle.lines.specs.Line.{refused}
+use Rattle.lines.proofs.put_refused.Statement.{statement}
+use Rattle.lines.proofs.put_refused.Tie as tie
 
 abbrev word : List ℕ
 word = followed refused 32
