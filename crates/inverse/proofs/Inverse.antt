@@ -163,25 +163,25 @@ heavy b = choose b 1210000 1210000000000000000
 abbrev heavyBack : ℕ
 heavyBack = 2243003720663
 
+-- a test that is passed for each row of each matrix
+abbrev rowTests : (Bool → ℕ → Bool) → List Bool
+rowTests f = f true 0 ∷ f true 1 ∷ f true 2 ∷ f false 0 ∷ f false 1 ∷ f false 2 ∷ []
+
+each-row : (f : Bool → ℕ → Bool) → T (every (rowTests f)) → (b : Bool) (k : ℕ) → k < 3 → T (f b k)
+unfolding nth
+each-row f t true zero h = passes (rowTests f) t 0
+each-row f t true (suc zero) h = passes (rowTests f) t 1
+each-row f t true (suc (suc zero)) h = passes (rowTests f) t 2
+each-row f t false zero h = passes (rowTests f) t 3
+each-row f t false (suc zero) h = passes (rowTests f) t 4
+each-row f t false (suc (suc zero)) h = passes (rowTests f) t 5
+each-row f t b (suc (suc (suc k))) h = absurd (omega arith)
+
 weighs : (b : Bool) (k : ℕ) → k < 3 → T (leb (weight (rowAt (matrices b .rows) k)) (heavy b))
-weighs true zero h = tt
-weighs true (suc zero) h = tt
-weighs true (suc (suc zero)) h = tt
-weighs true (suc (suc (suc k))) h = absurd (omega arith)
-weighs false zero h = tt
-weighs false (suc zero) h = tt
-weighs false (suc (suc zero)) h = tt
-weighs false (suc (suc (suc k))) h = absurd (omega arith)
+weighs = each-row (λ b k. leb (weight (rowAt (matrices b .rows) k)) (heavy b)) tt
 
 takes-back : (b : Bool) (k : ℕ) → k < 3 → T (every (undoes (inverses b) (matrices b .rows) (halfScale b) (2 ^ 39) (slacks b) heavyBack k))
-takes-back true zero h = tt
-takes-back true (suc zero) h = tt
-takes-back true (suc (suc zero)) h = tt
-takes-back true (suc (suc (suc k))) h = absurd (omega arith)
-takes-back false zero h = tt
-takes-back false (suc zero) h = tt
-takes-back false (suc (suc zero)) h = tt
-takes-back false (suc (suc (suc k))) h = absurd (omega arith)
+takes-back = each-row (λ b k. every (undoes (inverses b) (matrices b .rows) (halfScale b) (2 ^ 39) (slacks b) heavyBack k)) tt
 
 -- ---- of a setting
 near-zero : {k : ℕ} {x y z : ℤ} → Small3 k x y z → Near3 (three x y z) (three (pos 0) (pos 0) (pos 0)) k

@@ -17,9 +17,9 @@ use rules::Refusal;
 use rules::Setting;
 
 // The bytes of an ACES record and of a pixel record.
-const FROM: usize = 28;
+pub const FROM: usize = 28;
 
-const TO: usize = 10;
+pub const TO: usize = 10;
 
 // The bytes of the buffer: as many pixel records as a strip may have here.
 const BUFFER: usize = 40960;

@@ -1,4 +1,5 @@
-// Conversions of strips. A first pass checks every record, a second writes each: a refusal leaves the output as it was.
+// Conversions of strips. A first pass checks every record, a second writes each: a refusal leaves the output as it was. The way back of a short
+// strip takes one pass, into a buffer.
 ghost use mathlib.Core.Path.{_≡_};
 ghost use Rattle.rules.specs.Strip.{Converts};
 ghost use Rattle.conversion.specs.Conversions.{pixelToScene, sceneToPixel, pixelToAces, acesToPixel, conversionOf};
@@ -60,13 +61,17 @@ pub fn pixel_to_aces(input: &[u8], output: &mut [u8]) -> Answer
     convert(Kind::PixelToAces, input, output)
 }
 
-// The way back: a strip of ACES records to the one of pixel records that gives it. A short strip takes one pass; of fewer records than FEW two
-// passes are done before a buffer is made.
+// The way back: a strip of ACES records to the one of pixel records that gives it. For fewer records than FEW the two passes are done before a
+// buffer is made.
 pub fn aces_to_pixel(input: &[u8], output: &mut [u8]) -> Answer
     ensures { λ a. ⌜ Converts acesToPixel (now (input .entry)) (now (output .entry)) a (now (output .exit)) ⌝ }
 {
-    let n = input.len() / 28;
-    if FEW <= n && n <= SHORT && input.len() % 28 == 0 && n * 10 <= output.len() {
+    let n = input.len() / one_pass::FROM;
+    if FEW <= n
+        && n <= SHORT
+        && input.len() % one_pass::FROM == 0
+        && n * one_pass::TO <= output.len()
+    {
         return one_pass::aces_to_pixel(input, n, output);
     }
     convert(Kind::AcesToPixel, input, output)
