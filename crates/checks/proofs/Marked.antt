@@ -21,7 +21,7 @@ use Rattle.rules.specs.declared.Setting.{Setting}
 use Rattle.rules.specs.Setting.{settingCheck, topOf, Valid}
 use Rattle.rules.specs.Curve.{logC4, exponent}
 use Rattle.rules.specs.Exact.{Scale, signal, scaleOf, powerFor, VersusPart}
-use Rattle.rules.specs.Decoding.{Less, Greater, Decodes, DecodesPart, nearness, unit}
+use Rattle.rules.specs.Decoding.{Less, Greater, Decodes, DecodesPart, tolerance, unit}
 use Rattle.rules.specs.Encoding.{IsNearest, sceneCheck}
 use Rattle.rules.specs.Float.{valueOf, floatCheck, unitsOf}
 use Rattle.rules.proofs.Values as values
@@ -53,13 +53,13 @@ abbrev exponent-4095 : Fraction
 exponent-4095 = exponent logC4 (signal curve4 (whole 4095))
 
 -- y - 1 is below the exact value, and y + 1 above it
-below-4095 : (y : ℤ) → VersusPower Less (powerFor logC4 ((integer y -ℚ nearness) *ℚ unit)) 2 exponent-4095 → up y ≤ 7881936077
+below-4095 : (y : ℤ) → VersusPower Less (powerFor logC4 ((integer y -ℚ tolerance) *ℚ unit)) 2 exponent-4095 → up y ≤ 7881936077
 below-4095 y h =
-    omega (arith, one-zero y, simp tidy at (values.at-whole values.less 2 (lit< tt) (powerFor logC4 ((integer y -ℚ nearness) *ℚ unit)) exponent-4095 20 (lit< tt) (lit< tt) refl h))
+    omega (arith, one-zero y, simp tidy at (values.at-whole values.less 2 (lit< tt) (powerFor logC4 ((integer y -ℚ tolerance) *ℚ unit)) exponent-4095 20 (lit< tt) (lit< tt) refl h))
 
-above-4095 : (y : ℤ) → VersusPower Greater (powerFor logC4 ((integer y +ℚ nearness) *ℚ unit)) 2 exponent-4095 → 7881936076 ≤ up y
+above-4095 : (y : ℤ) → VersusPower Greater (powerFor logC4 ((integer y +ℚ tolerance) *ℚ unit)) 2 exponent-4095 → 7881936076 ≤ up y
 above-4095 y h =
-    omega (arith, one-zero y, simp tidy at (values.at-whole (values.flip values.less) 2 (lit< tt) (powerFor logC4 ((integer y +ℚ nearness) *ℚ unit)) exponent-4095 20 (lit< tt) (lit< tt) refl h))
+    omega (arith, one-zero y, simp tidy at (values.at-whole (values.flip values.less) 2 (lit< tt) (powerFor logC4 ((integer y +ℚ tolerance) *ℚ unit)) exponent-4095 20 (lit< tt) (lit< tt) refl h))
 
 one-of-two : (y : ℤ) → up y ≤ 7881936077 → 7881936076 ≤ up y → (y ≡ pos 7881936076) ⊎ (y ≡ pos 7881936077)
 one-of-two (pos n) h g = go (eqb n 7881936076) refl

@@ -17,7 +17,7 @@ use Rattle.rules.specs.Setting.{topOf, curveOf, Valid}
 use Rattle.rules.specs.Fraction.{Fraction, whole, integer, _+ℚ_, _-ℚ_, _*ℚ_, nearest, Versus}
 use Rattle.rules.specs.Curve.{Curve, logC4, logC3, inToe, toeValue}
 use Rattle.rules.specs.Exact.{Scale, signal, scaleOf, VersusPart}
-use Rattle.rules.specs.Decoding.{unit, Less, Greater, DecodesPart}
+use Rattle.rules.specs.Decoding.{unit, tolerance, Less, Greater, DecodesPart}
 use Rattle.rules.specs.ExactRow.{Close}
 use Rattle.table.specs.Table.{tableOf}
 use Rattle.curve.specs.Decoded.{decoded}
@@ -45,7 +45,7 @@ toe-close t h y e =
         → p * 16777216 + ((u * 1 + 1) * 0 + (d * 1 + 0) * 1) * o < ((u * 1 + 1) * 1 + (d * 1 + 0) * 0) * o + m * 16777216
     greater u d p m o z h = omega arith
 
-part-close : (k : Scale) (n : ℕ) (y : ℤ) (b : Bool) → (T b → 0 < toeValue (k .curve) (signal k (whole n)) .over) → inToe (k .curve) (signal k (whole n)) ≡ b → DecodesPart k n y b → Close k n y
+part-close : (k : Scale) (n : ℕ) (y : ℤ) (b : Bool) → (T b → 0 < toeValue (k .curve) (signal k (whole n)) .over) → inToe (k .curve) (signal k (whole n)) ≡ b → DecodesPart tolerance k n y b → Close k n y
 part-close k n y true h e (DecodesPart.toe p) =
     let c = toe-close (toeValue (k .curve) (signal k (whole n))) (h tt) y p in
     record { under = rw e (VersusPart.toe (c .0)); over = rw e (VersusPart.toe (c .1)) }

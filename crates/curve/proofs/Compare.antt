@@ -57,7 +57,7 @@ same-power-for c x y e =
         ∙ sym (ap₂ (λ (x y : ℕ). x + y) (product H T M L p′ z′ z) (product H T M K n z z′))
 
 -- the denominator of the exponent
-over-pos : (c : Curve) (start span x r : ℕ) → 0 < den c * (r * span) → 0 < exponent c (signal (record { curve = c; start = start; span = span }) (ratio x r)) .over
+pub over-pos : (c : Curve) (start span x r : ℕ) → 0 < den c * (r * span) → 0 < exponent c (signal (record { curve = c; start = start; span = span }) (ratio x r)) .over
 over-pos logC4 start span x r h = simp tidy (omega arith)
 over-pos (logC3 k) start span x r h = simp tidy (omega arith)
 
@@ -97,7 +97,7 @@ module _ (k : Scale) (top : ℕ) (t : List ℕ) (s : Source) (ok : T (every (tes
       right H zero h = absurd (omega arith)
       right H (suc M) h = omega arith
 
-  power-over-pos : (x : Fraction) → 0 < x .over → 0 < powerFor (k .curve) x .over
+  pub power-over-pos : (x : Fraction) → 0 < x .over → 0 < powerFor (k .curve) x .over
   power-over-pos x h = mul-pos (mul-pos h times-pos) less-over-pos
 
   module _ (x r : ℕ) (pr : 0 < r) where
@@ -110,7 +110,7 @@ module _ (k : Scale) (top : ℕ) (t : List ℕ) (s : Source) (ok : T (every (tes
         times-r : (i a m o p : ℕ) → i * (a * 1) + m * (1 * p) ≤ lift * (o * (1 * p)) → i * (a * r) + m * (r * p) ≤ lift * (o * (r * p))
         times-r i a m o p h = omega (arith, mul-le-mul-right r h)
 
-    exponent-over-pos : 0 < den (k .curve) * (r * k .span)
+    pub exponent-over-pos : 0 < den (k .curve) * (r * k .span)
     exponent-over-pos = times-r (den (k .curve)) (k .span) (mul-pos (q-pos k top t s ok) pr)
       where
         times-r : (o p : ℕ) → 0 < o * (1 * p) * r → 0 < o * (r * p)

@@ -1,6 +1,7 @@
--- Of a scale whose tests are passed: in the power part the decoded number is as near to the exact value as the rules ask.
+-- Of a scale whose tests are passed: in the power part the decoded number is less than a tolerance from the exact value, where there is room
+-- for it at the code. For the tolerance of the rules there is.
 -- Assumes nothing.
-use mathlib.Core.Path.{_≡_, _∙_, subst}
+use mathlib.Core.Path.{_≡_, ap, _∙_, subst}
 use mathlib.Core.List.{List}
 use Prim.Native.Nat.{ℕ, _+_, _-_, _*_, _/_, _^_, _≤_, _<_}
 use native.Mathlib.Nat.{mul-lt-mul-of-pos-right, mul-comm, mul-sub, mul-le-mul-left, mul-pos, div-mul-le-self, lt-div-mul-add}
@@ -10,11 +11,11 @@ use lib.IntN.{ℤ, subℕ}
 use Rattle.whole.specs.Parts.{up, dn}
 use Rattle.whole.proofs.Reflect.{sub-dif}
 use Rattle.whole.proofs.Tidy.{tidy}
-use Rattle.rules.specs.Fraction.{Fraction, whole, integer, _+ℚ_, _-ℚ_, _*ℚ_, Versus, VersusPower}
+use Rattle.rules.specs.Fraction.{Fraction, ratio, whole, integer, _+ℚ_, _-ℚ_, _*ℚ_, Versus, VersusPower}
 use Rattle.rules.specs.Curve.{base, exponent, factor}
 use Rattle.rules.specs.Curve as curve
 use Rattle.rules.specs.Exact.{Scale, signal, powerFor}
-use Rattle.rules.specs.Decoding.{Less, Greater, nearness}
+use Rattle.rules.specs.Decoding.{Less, Greater}
 use Rattle.rules.specs.Decoding as decoding
 use Rattle.rules.proofs.Values.{less, flip}
 use Rattle.power.specs.Power.{Below, Above}
@@ -52,69 +53,85 @@ scaled-low X B T H M D v p h = omega (arith, mul-lt-mul-of-pos-right {k = B * T}
 scaled-high : (X B T H M D v : ℕ) → 0 < B * T → D * (H * M) * v < X * 2 ^ 29 → H * B * v * (D * 2 ^ 24 * T * M) < X * B * (2 ^ 53 * T)
 scaled-high X B T H M D v p h = omega (arith, mul-lt-mul-of-pos-right {k = B * T} h p)
 
--- the number less nearness, and with it, as the tests and as the rules write them: u is y with the offset
-less-bound : (y : ℤ) (u : ℕ) → up y + offset ≡ u + dn y
-    → Versus (λ i j. i ≡ j) (record { plus = far * u; minus = far * offset + near; over = far * 2 ^ 24 }) ((integer y -ℚ nearness) *ℚ decoding.unit)
-less-bound y u e = simp tidy (omega arith)
+-- the number less N / D, and with it, as the tests and as the rules write them: u is y with the offset
+less-bound : (N D : ℕ) (y : ℤ) (u : ℕ) → up y + offset ≡ u + dn y
+    → Versus (λ i j. i ≡ j) (record { plus = D * u; minus = D * offset + N; over = D * 2 ^ 24 }) ((integer y -ℚ ratio N D) *ℚ decoding.unit)
+less-bound N D y u e = simp tidy (omega (arith, ap (λ (w : ℕ). w * (D * D * 2 ^ 24)) e))
 
-with-bound : (y : ℤ) (u : ℕ) → up y + offset ≡ u + dn y
-    → Versus (λ i j. i ≡ j) (record { plus = far * u + near; minus = far * offset; over = far * 2 ^ 24 }) ((integer y +ℚ nearness) *ℚ decoding.unit)
-with-bound y u e = simp tidy (omega arith)
+with-bound : (N D : ℕ) (y : ℤ) (u : ℕ) → up y + offset ≡ u + dn y
+    → Versus (λ i j. i ≡ j) (record { plus = D * u + N; minus = D * offset; over = D * 2 ^ 24 }) ((integer y +ℚ ratio N D) *ℚ decoding.unit)
+with-bound N D y u e = simp tidy (omega (arith, ap (λ (w : ℕ). w * (D * D * 2 ^ 24)) e))
+
+-- ROOM at the code n for a tolerance N / D: the number less N / D is too small for the product v, and with it too large for v + 5, between
+-- which the power is
+pub record Room (k : Scale) (t : List ℕ) (n N D : ℕ) : Type 0 where
+  pub low :
+      (D * powerRaw (decoderOf k) t n * kappa k + D * 2 ^ 24 * plus-less k - ((D * offset + N) * kappa k + D * 2 ^ 24 * minus-less k)) * 2 ^ 29
+      < D * kappa k * product t n
+  pub high :
+      D * kappa k * (product t n + 5)
+      < ((D * powerRaw (decoderOf k) t n + N) * kappa k + D * 2 ^ 24 * plus-less k - (D * offset * kappa k + D * 2 ^ 24 * minus-less k)) * 2 ^ 29
 
 module _ (k : Scale) (top : ℕ) (t : List ℕ) (s : Source) (ok : T (every (tests k top t s))) (n : ℕ) (from : first k ≤ n) (to : n ≤ top) where
   -- the number, with the offset
   abbrev u : ℕ
   u = powerRaw (decoderOf k) t n
 
+  -- room where the product with two biases, i below and j above, is rounded down to the number
+  pub room-by : (N D : ℕ) → 0 < D → (i j : ℕ) → u * 2 ^ 29 ≤ product t n + i → product t n + j < u * 2 ^ 29 + 2 ^ 29
+      → D * kappa k * i + D * 2 ^ 24 * plus-less k * 2 ^ 29 < kappa k * (D * offset + N) * 2 ^ 29 + D * 2 ^ 24 * minus-less k * 2 ^ 29
+      → D * kappa k * 2 ^ 29 + 4 * (D * kappa k) + D * offset * kappa k * 2 ^ 29 + D * 2 ^ 24 * minus-less k * 2 ^ 29 < N * kappa k * 2 ^ 29 + D * 2 ^ 24 * plus-less k * 2 ^ 29 + D * kappa k * j
+      → Room k t n N D
+  room-by N D pD i j below above small large =
+      record {
+        low =
+            low-enough D N (kappa k) u (product t n) i (2 ^ 29) (D * 2 ^ 24 * plus-less k) (D * 2 ^ 24 * minus-less k) offset
+            (mul-pos (mul-pos pD (kappa-pos k top t s ok)) (product-positive k top t s ok n from to)) below small;
+        high = high-enough D N (kappa k) u (product t n) j (2 ^ 29) (D * 2 ^ 24 * plus-less k) (D * 2 ^ 24 * minus-less k) offset above large;
+      }
+
+  -- for the rules' tolerance, by the tests
+  pub room : Room k t n near far
+  unfolding nth
+  room =
+      room-by near far (lit< tt) (bias k) (bias k) (div-mul-le-self (product t n + bias k) (2 ^ 29)) (lt-div-mul-add {a = product t n + bias k} {b = 2 ^ 29} (lit< tt))
+      (ltb→lt (far * kappa k * bias k + far * 2 ^ 24 * plus-less k * 2 ^ 29) (kappa k * (far * offset + near) * 2 ^ 29 + far * 2 ^ 24 * minus-less k * 2 ^ 29) (passes (tests k top t s) ok near-below))
+      (ltb→lt (far * kappa k * 2 ^ 29 + 4 * (far * kappa k) + far * offset * kappa k * 2 ^ 29 + far * 2 ^ 24 * minus-less k * 2 ^ 29) (near * kappa k * 2 ^ 29 + far * 2 ^ 24 * plus-less k * 2 ^ 29 + far * kappa k * bias k) (passes (tests k top t s) ok near-above))
+
   exponent-at : begin k + n * by k ≡ exponentAt k n 1 .plus + (lift * q k - exponentAt k n 1 .minus)
   exponent-at = omega (arith, lifted-ok k top t s ok n 1 (lit< tt))
 
-  low : (far * u * kappa k + far * 2 ^ 24 * plus-less k - ((far * offset + near) * kappa k + far * 2 ^ 24 * minus-less k)) * 2 ^ 29 < far * kappa k * product t n
-  unfolding nth
-  low =
-      low-enough (far) (near) (kappa k) u (product t n) (bias k) (2 ^ 29) (far * 2 ^ 24 * plus-less k) (far * 2 ^ 24 * minus-less k) offset
-      (mul-pos (mul-pos (lit< tt) (kappa-pos k top t s ok)) (product-positive k top t s ok n from to))
-      (div-mul-le-self (product t n + bias k) (2 ^ 29))
-      (ltb→lt (far * kappa k * bias k + far * 2 ^ 24 * plus-less k * 2 ^ 29) (kappa k * (far * offset + near) * 2 ^ 29 + far * 2 ^ 24 * minus-less k * 2 ^ 29) (passes (tests k top t s) ok near-below))
+  -- the value (p - m) / (D * 2 ^ 24) is below the exact value, above it
+  module _ (D : ℕ) (pD : 0 < D) (p m : ℕ) (y : Fraction) (py : 0 < y .over) (e : Versus (λ i j. i ≡ j) (record { plus = p; minus = m; over = D * 2 ^ 24 }) y) where
+    abbrev value : Fraction
+    value = record { plus = p; minus = m; over = D * 2 ^ 24 }
 
-  high : far * kappa k * (product t n + 5) < ((far * u + near) * kappa k + far * 2 ^ 24 * plus-less k - (far * offset * kappa k + far * 2 ^ 24 * minus-less k)) * 2 ^ 29
-  unfolding nth
-  high =
-      high-enough (far) (near) (kappa k) u (product t n) (bias k) (2 ^ 29) (far * 2 ^ 24 * plus-less k) (far * 2 ^ 24 * minus-less k) offset
-      (lt-div-mul-add {a = product t n + bias k} {b = 2 ^ 29} (lit< tt))
-      (ltb→lt (far * kappa k * 2 ^ 29 + 4 * (far * kappa k) + far * offset * kappa k * 2 ^ 29 + far * 2 ^ 24 * minus-less k * 2 ^ 29) (near * kappa k * 2 ^ 29 + far * 2 ^ 24 * plus-less k * 2 ^ 29 + far * kappa k * bias k) (passes (tests k top t s) ok near-above))
+    below-power : (p * kappa k + D * 2 ^ 24 * plus-less k - (m * kappa k + D * 2 ^ 24 * minus-less k)) * 2 ^ 29 < D * kappa k * product t n
+        → VersusPower Less (powerFor (k .curve) y) (base (k .curve)) (exponent (k .curve) (signal k (whole n)))
+    below-power h =
+        by-rules k top t s ok n 1 (lit< tt) less value y (mul-pos pD (lit< tt)) py e
+        (below-lt (wanted k value * b k ^ lift) (powerFor (k .curve) value .over) (q-nonzero k top t s ok)
+        (scaled-low (wanted k value) (b k ^ lift) (times k) (factor (k .curve) .over) (curve.less (k .curve) .over) D (product t n) (lift-pos k top t s ok) (rw (wanted-is k value) h))
+        (subst (λ (i : ℕ). Below (b k) (q k) i (entry k * product t n) (unit k)) exponent-at (law k top t s ok n to .lower)))
 
-  -- the value (p - m) / (far * 2 ^ 24) is below the exact value, above it
-  abbrev value : (p m : ℕ) → Fraction
-  value p m = record { plus = p; minus = m; over = far * 2 ^ 24 }
+    above-power : D * kappa k * (product t n + 5) < (p * kappa k + D * 2 ^ 24 * plus-less k - (m * kappa k + D * 2 ^ 24 * minus-less k)) * 2 ^ 29
+        → VersusPower Greater (powerFor (k .curve) y) (base (k .curve)) (exponent (k .curve) (signal k (whole n)))
+    above-power h =
+        by-rules k top t s ok n 1 (lit< tt) (flip less) value y (mul-pos pD (lit< tt)) py e
+        (above-lt (wanted k value * b k ^ lift) (powerFor (k .curve) value .over) (q-nonzero k top t s ok)
+        (scaled-high (wanted k value) (b k ^ lift) (times k) (factor (k .curve) .over) (curve.less (k .curve) .over) D (product t n + 5) (lift-pos k top t s ok) (rw (wanted-is k value) h))
+        (subst (λ (i : ℕ). Above (b k) (q k) i (entry k * (product t n + 5)) (unit k)) exponent-at (law k top t s ok n to .upper)))
 
-  below-power : (p m : ℕ) (y : Fraction) → 0 < y .over → Versus (λ i j. i ≡ j) (value p m) y
-      → (p * kappa k + far * 2 ^ 24 * plus-less k - (m * kappa k + far * 2 ^ 24 * minus-less k)) * 2 ^ 29 < far * kappa k * product t n
-      → VersusPower Less (powerFor (k .curve) y) (base (k .curve)) (exponent (k .curve) (signal k (whole n)))
-  below-power p m y py e h =
-      by-rules k top t s ok n 1 (lit< tt) less (value p m) y (lit< tt) py e
-      (below-lt (wanted k (value p m) * b k ^ lift) (powerFor (k .curve) (value p m) .over) (q-nonzero k top t s ok)
-      (scaled-low (wanted k (value p m)) (b k ^ lift) (times k) (factor (k .curve) .over) (curve.less (k .curve) .over) (far) (product t n) (lift-pos k top t s ok) (rw (wanted-is k (value p m)) h))
-      (subst (λ (i : ℕ). Below (b k) (q k) i (entry k * product t n) (unit k)) exponent-at (law k top t s ok n to .lower)))
+  -- THE BOUND: where there is room, the number less N / D is below the exact value, and with it above
+  module _ (N D : ℕ) (pD : 0 < D) (r : Room k t n N D) where
+    pub below-exact : VersusPower Less (powerFor (k .curve) ((integer (subℕ u offset) -ℚ ratio N D) *ℚ decoding.unit)) (base (k .curve)) (exponent (k .curve) (signal k (whole n)))
+    below-exact =
+        below-power D pD (D * u) (D * offset + N) ((integer (subℕ u offset) -ℚ ratio N D) *ℚ decoding.unit) (mul-pos (mul-pos (lit< tt) pD) (lit< tt))
+        (less-bound N D (subℕ u offset) u (sub-dif u offset))
+        (r .low)
 
-  above-power : (p m : ℕ) (y : Fraction) → 0 < y .over → Versus (λ i j. i ≡ j) (value p m) y
-      → far * kappa k * (product t n + 5) < (p * kappa k + far * 2 ^ 24 * plus-less k - (m * kappa k + far * 2 ^ 24 * minus-less k)) * 2 ^ 29
-      → VersusPower Greater (powerFor (k .curve) y) (base (k .curve)) (exponent (k .curve) (signal k (whole n)))
-  above-power p m y py e h =
-      by-rules k top t s ok n 1 (lit< tt) (flip less) (value p m) y (lit< tt) py e
-      (above-lt (wanted k (value p m) * b k ^ lift) (powerFor (k .curve) (value p m) .over) (q-nonzero k top t s ok)
-      (scaled-high (wanted k (value p m)) (b k ^ lift) (times k) (factor (k .curve) .over) (curve.less (k .curve) .over) (far) (product t n + 5) (lift-pos k top t s ok) (rw (wanted-is k (value p m)) h))
-      (subst (λ (i : ℕ). Above (b k) (q k) i (entry k * (product t n + 5)) (unit k)) exponent-at (law k top t s ok n to .upper)))
-
-  -- THE BOUND: the number less nearness is below the exact value, and with it above
-  pub below-exact : VersusPower Less (powerFor (k .curve) ((integer (subℕ u offset) -ℚ nearness) *ℚ decoding.unit)) (base (k .curve)) (exponent (k .curve) (signal k (whole n)))
-  below-exact =
-      below-power (far * u) (far * offset + near) ((integer (subℕ u offset) -ℚ nearness) *ℚ decoding.unit) (lit< tt)
-      (less-bound (subℕ u offset) u (sub-dif u offset))
-      low
-
-  pub above-exact : VersusPower Greater (powerFor (k .curve) ((integer (subℕ u offset) +ℚ nearness) *ℚ decoding.unit)) (base (k .curve)) (exponent (k .curve) (signal k (whole n)))
-  above-exact =
-      above-power (far * u + near) (far * offset) ((integer (subℕ u offset) +ℚ nearness) *ℚ decoding.unit) (lit< tt)
-      (with-bound (subℕ u offset) u (sub-dif u offset))
-      high
+    pub above-exact : VersusPower Greater (powerFor (k .curve) ((integer (subℕ u offset) +ℚ ratio N D) *ℚ decoding.unit)) (base (k .curve)) (exponent (k .curve) (signal k (whole n)))
+    above-exact =
+        above-power D pD (D * u + N) (D * offset) ((integer (subℕ u offset) +ℚ ratio N D) *ℚ decoding.unit) (mul-pos (mul-pos (lit< tt) pD) (lit< tt))
+        (with-bound N D (subℕ u offset) u (sub-dif u offset))
+        (r .high)

@@ -10,18 +10,18 @@ use borrow.Author.Tests.{ltb-true, ltb-false, lt-ltb, le-ltb}
 use lib.Dec.{T, ltb, ltb→lt, leb→le, lit<}
 use lib.IntN.{ℤ, subℕ}
 use Rattle.rules.specs.Choice.{choose}
-use Rattle.rules.specs.Fraction.{whole}
+use Rattle.rules.specs.Fraction.{ratio, whole}
 use Rattle.rules.specs.Curve.{Curve, logC4, logC3, Constants, inToe}
 use Rattle.rules.specs.Exact.{Scale, signal, VersusPart}
-use Rattle.rules.specs.Decoding.{DecodesPart, Decodes}
+use Rattle.rules.specs.Decoding.{DecodesPart, DecodesWithin, Decodes}
 use Rattle.table.specs.Table.{fine}
 use Rattle.curve.specs.declared.decoder.Decoder.{Decoder}
 use Rattle.curve.specs.Gap.{gap}
 use Rattle.curve.specs.Decoded.{offset, product, toeRaw, powerRaw, rawBy, decoderOf, firstOf, toeOf, overOf}
 use Rattle.whole.proofs.Tests.{nth, passes, every}
-use Rattle.curve.proofs.Tests.{Source, tests, toeTests, first, bias, ratio-above-one, steps, toe-right, toe-added, toe-divisor, toe-steps, border-rises}
+use Rattle.curve.proofs.Tests.{Source, tests, toeTests, near, far, first, bias, ratio-above-one, steps, toe-right, toe-added, toe-divisor, toe-steps, border-rises}
 use Rattle.curve.proofs.Law.{no-less, next-low}
-use Rattle.curve.proofs.Near.{below-exact, above-exact}
+use Rattle.curve.proofs.Near.{Room, room, below-exact, above-exact}
 use Rattle.curve.proofs.Toe.{toe-code, power-code, toe-number}
 
 -- ---- which part
@@ -71,10 +71,10 @@ module _ (start span top : ℕ) (t : List ℕ) (s : Source) (ok : T (every (test
   abbrev k4 : Scale
   k4 = record { curve = logC4; start = start; span = span }
 
-  decodes4 : (n : ℕ) → n ≤ top → Decodes k4 n (subℕ (rawBy (decoderOf k4) t n) offset)
-  decodes4 n h =
+  within4 : (N D : ℕ) → 0 < D → ((n : ℕ) → n ≤ top → Room k4 t n N D) → (n : ℕ) → n ≤ top → DecodesWithin (ratio N D) k4 n (subℕ (rawBy (decoderOf k4) t n) offset)
+  within4 N D pD r n h =
       rw (raw-power (decoderOf k4) t n (omega arith))
-      (DecodesPart.power (VersusPart.power (below-exact k4 top t s ok n (omega arith) h)) (VersusPart.power (above-exact k4 top t s ok n (omega arith) h)))
+      (DecodesPart.power (VersusPart.power (below-exact k4 top t s ok n (omega arith) h N D pD (r n h))) (VersusPart.power (above-exact k4 top t s ok n (omega arith) h N D pD (r n h))))
 
   rises4 : (n : ℕ) → n < top → rawBy (decoderOf k4) t n + gap ≤ rawBy (decoderOf k4) t (n + 1)
   rises4 n h =
@@ -94,28 +94,28 @@ module _ (c : Constants) (start span top : ℕ) (t : List ℕ) (s : Source) (ok 
   toe-test : (i : ℕ) → T (nth (toeTests (logC3 c) start span t) i)
   toe-test i = passes (toeTests (logC3 c) start span t) (toe-ok (logC3 c) start span top t s ok) i
 
-  pub room : 2 ^ 25 * (1000000 * start + c .f * span) ≤ c .e * span * (2 * offset + 1)
+  pub toe-room : 2 ^ 25 * (1000000 * start + c .f * span) ≤ c .e * span * (2 * offset + 1)
   unfolding nth
-  room = leb→le (2 ^ 25 * (1000000 * start + c .f * span)) (c .e * span * (2 * offset + 1)) (toe-test toe-added)
+  toe-room = leb→le (2 ^ 25 * (1000000 * start + c .f * span)) (c .e * span * (2 * offset + 1)) (toe-test toe-added)
 
   pub divisor : 0 < c .e * span
   unfolding nth
   divisor = ltb→lt 0 (c .e * span) (toe-test toe-divisor)
 
-  decodes3 : (n : ℕ) → n ≤ top → Decodes k3 n (subℕ (rawBy d3 t n) offset)
-  decodes3 n h = go (ltb n (d3 .first)) refl
+  within3 : (N D : ℕ) → 0 < D → ((n : ℕ) → d3 .first ≤ n → n ≤ top → Room k3 t n N D) → (n : ℕ) → n ≤ top → DecodesWithin (ratio N D) k3 n (subℕ (rawBy d3 t n) offset)
+  within3 N D pD r n h = go (ltb n (d3 .first)) refl
     where
-      in-toe : n < d3 .first → Decodes k3 n (subℕ (rawBy d3 t n) offset)
-      in-toe g = rw (raw-toe d3 t n g, passed (here n) (toe-code c start span n g)) (DecodesPart.toe (toe-number c start span n room divisor))
+      in-toe : n < d3 .first → DecodesWithin (ratio N D) k3 n (subℕ (rawBy d3 t n) offset)
+      in-toe g = rw (raw-toe d3 t n g, passed (here n) (toe-code c start span n g)) (DecodesPart.toe (toe-number c start span n toe-room divisor))
 
-      in-power : d3 .first ≤ n → Decodes k3 n (subℕ (rawBy d3 t n) offset)
+      in-power : d3 .first ≤ n → DecodesWithin (ratio N D) k3 n (subℕ (rawBy d3 t n) offset)
       in-power g =
           rw (raw-power d3 t n g, failed (here n) (power-code c start span n g))
           (DecodesPart.power
-          (rw (failed (here n) (power-code c start span n g)) (VersusPart.power (below-exact k3 top t s ok n g h)))
-          (rw (failed (here n) (power-code c start span n g)) (VersusPart.power (above-exact k3 top t s ok n g h))))
+          (rw (failed (here n) (power-code c start span n g)) (VersusPart.power (below-exact k3 top t s ok n g h N D pD (r n g h))))
+          (rw (failed (here n) (power-code c start span n g)) (VersusPart.power (above-exact k3 top t s ok n g h N D pD (r n g h)))))
 
-      go : (x : Bool) → ltb n (d3 .first) ≡ x → Decodes k3 n (subℕ (rawBy d3 t n) offset)
+      go : (x : Bool) → ltb n (d3 .first) ≡ x → DecodesWithin (ratio N D) k3 n (subℕ (rawBy d3 t n) offset)
       go true e = in-toe (ltb-true n (d3 .first) e)
       go false e = in-power (ltb-false n (d3 .first) e)
 
@@ -161,10 +161,16 @@ module _ (c : Constants) (start span top : ℕ) (t : List ℕ) (s : Source) (ok 
           (power-step (logC3 c) start span top t s ok n (ltb-false n (d3 .first) f) h)
 
 -- ---- both
+pub within : (c : Curve) (start span top : ℕ) (t : List ℕ) (s : Source) → T (every (tests (record { curve = c; start = start; span = span }) top t s))
+    → (N D : ℕ) → 0 < D
+    → ((n : ℕ) → first (record { curve = c; start = start; span = span }) ≤ n → n ≤ top → Room (record { curve = c; start = start; span = span }) t n N D)
+    → (n : ℕ) → n ≤ top → DecodesWithin (ratio N D) (record { curve = c; start = start; span = span }) n (subℕ (rawBy (decoderOf (record { curve = c; start = start; span = span })) t n) offset)
+within logC4 start span top t s ok N D pD r = within4 start span top t s ok N D pD (λ n h. r n (omega arith) h)
+within (logC3 c) start span top t s ok N D pD r = within3 c start span top t s ok N D pD r
+
 pub decodes : (c : Curve) (start span top : ℕ) (t : List ℕ) (s : Source) → T (every (tests (record { curve = c; start = start; span = span }) top t s))
     → (n : ℕ) → n ≤ top → Decodes (record { curve = c; start = start; span = span }) n (subℕ (rawBy (decoderOf (record { curve = c; start = start; span = span })) t n) offset)
-decodes logC4 start span top t s ok = decodes4 start span top t s ok
-decodes (logC3 c) start span top t s ok = decodes3 c start span top t s ok
+decodes c start span top t s ok = within c start span top t s ok near far (lit< tt) (room (record { curve = c; start = start; span = span }) top t s ok)
 
 pub rises : (c : Curve) (start span top : ℕ) (t : List ℕ) (s : Source) → T (every (tests (record { curve = c; start = start; span = span }) top t s))
     → (n : ℕ) → n < top → rawBy (decoderOf (record { curve = c; start = start; span = span })) t n + gap ≤ rawBy (decoderOf (record { curve = c; start = start; span = span })) t (n + 1)

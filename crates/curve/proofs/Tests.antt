@@ -8,7 +8,7 @@ use lib.ListN.{length, getD, take, drop}
 use Rattle.rules.specs.Choice.{choose}
 use Rattle.rules.specs.Curve.{Curve, logC4, logC3, base, less, factor}
 use Rattle.rules.specs.Exact.{Scale}
-use Rattle.rules.specs.Decoding.{nearness}
+use Rattle.rules.specs.Decoding.{tolerance}
 use Rattle.power.specs.Progression.{squareDown, squareUp}
 use Rattle.whole.proofs.Tests.{both, both-left, both-right, every}
 use Rattle.power.proofs.Certificate.{up-run, down-run}
@@ -51,10 +51,10 @@ slack = 4
 
 -- how far a decoded number may be off, in units: near / far
 abbrev pub near : ℕ
-near = nearness .plus
+near = tolerance .plus
 
 abbrev pub far : ℕ
-far = nearness .over
+far = tolerance .over
 
 module _ (k : Scale) where
   abbrev pub b : ℕ

@@ -28,7 +28,7 @@ use Rattle.curve.proofs.Cleared.{exponentAt}
 use Rattle.whole.proofs.Tests.{nth, passes, every}
 use Rattle.curve.proofs.Tests.{Source, slack, tests, b, by, q, times, kappa, plus-less, minus-less, begin, entry, unit, first, bias}
 use Rattle.curve.proofs.Law as law
-use Rattle.curve.proofs.Right.{raw-toe, raw-power, passed, failed, room, divisor}
+use Rattle.curve.proofs.Right.{raw-toe, raw-power, passed, failed, toe-room, divisor}
 use Rattle.curve.proofs.Compare.{wanted, wanted-is, lifted-ok, by-rules}
 use Rattle.encode.proofs.Sums.{half-le, half-ge, half-toe-le, half-toe-ge, power-le, power-ge}
 use Rattle.encode.proofs.ThirdTests.{third, twoThirds, wide, added, taken, underProduct, overProduct, underValue, overValue, signalAt, underTwoThirds, overThird, spare-up, spare-down, borderTests, thirdTests, third-low, third-high, apart-up, apart-down, thirds-up, thirds-down, borders, toe-apart, border-up, border-down}
@@ -272,12 +272,12 @@ module _ (c : Constants) (start span top : ℕ) (t : List ℕ) (s : Source) (ok 
   toes-under : (n : ℕ) → n + 1 < first k3 → T (underTwoThirds k3 t s n (u3 n + u3 (n + 1)))
   toes-under n h =
       rw (passed (inToe (logC3 c) (signalAt k3 (3 * n + 2))) (toe-third c start span (3 * n + 2) (n + 1) h (omega arith)))
-      (le→leb _ _ (toe-le c start span n (u3 n) (u3 (n + 1)) (room c start span top t s ok) apart (toe-low n (earlier n h)) (toe-low (n + 1) h)))
+      (le→leb _ _ (toe-le c start span n (u3 n) (u3 (n + 1)) (toe-room c start span top t s ok) apart (toe-low n (earlier n h)) (toe-low (n + 1) h)))
 
   toes-over : (n : ℕ) → n + 1 < first k3 → T (overThird k3 t s n (u3 n + u3 (n + 1)))
   toes-over n h =
       rw (passed (inToe (logC3 c) (signalAt k3 (3 * n + 1))) (toe-third c start span (3 * n + 1) (n + 1) h (omega arith)))
-      (le→leb _ _ (toe-ge c start span n (u3 n) (u3 (n + 1)) (room c start span top t s ok) apart (toe-high n (earlier n h)) (toe-high (n + 1) h)))
+      (le→leb _ _ (toe-ge c start span n (u3 n) (u3 (n + 1)) (toe-room c start span top t s ok) apart (toe-high n (earlier n h)) (toe-high (n + 1) h)))
 
   -- a fact of neighbouring codes, from the three places where they may be
   by-place : (P : ℕ → ℕ → Type 0) → ((n : ℕ) → n + 1 < first k3 → P n (n + 1)) → P (first k3 - 1) (first k3) → ((n : ℕ) → first k3 ≤ n → n < top → P n (n + 1))

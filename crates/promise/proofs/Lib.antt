@@ -1,3 +1,4 @@
 pub mod Single
 pub mod Strips
 pub mod Theorems
+pub mod Papers

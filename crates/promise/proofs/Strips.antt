@@ -75,9 +75,13 @@ module _ (pixels : List ℕ) (n : ℕ) (a : Accepted pixels n) where
         passes = sym (all-done (recordCheck pixelToAces) 10 n pixels 0 (λ k h. accepted-good k h .passes) ∙ ap Done (zero-add n));
       }
 
-  -- its ACES strip has n records
+  -- it has n records
+  pub whole-records : length pixels / 10 ≡ n
+  whole-records = ap (λ (m : ℕ). m / 10) (a .long) ∙ mul-div-cancel n (lit< tt)
+
+  -- and its ACES strip too
   pub made-records : made pixels ≡ written (pixelToAces .bytes) (records 10 n pixels)
-  made-records = ap (λ (m : ℕ). written (pixelToAces .bytes) (records 10 m pixels)) (ap (λ (m : ℕ). m / 10) (a .long) ∙ mul-div-cancel n (lit< tt))
+  made-records = ap (λ (m : ℕ). written (pixelToAces .bytes) (records 10 m pixels)) whole-records
 
   pub made-long : length (made pixels) ≡ n * 28
   made-long = ap length made-records ∙ length-written (pixelToAces .bytes) 28 aces-long 10 n pixels

@@ -16,10 +16,10 @@ use Rattle.rules.specs.ExactRow.{TwoUnits}
 use Rattle.rules.specs.Matrix.{matrixOf}
 use Rattle.rules.specs.Record.{IsBytes, numberBytes, ofBits, settingOf, channelAt}
 use Rattle.rules.specs.Strip.{records, recordAt, written}
-use Rattle.rules.specs.WayBack.{IsPixel}
+use Rattle.rules.specs.WayBack.{IsPixel, acesOf}
+use Rattle.curve.specs.Decoded.{decoded}
 use Rattle.wayback.specs.Back.{pixelAces}
 use Rattle.rules.specs.Contents.{pixelIn, pixelRecord, acesRecord}
-use Rattle.conversion.specs.Conversions.{pixelToAces}
 
 -- "It gives the ACES record that holds this setting and the pixel's three ACES numbers."
 abbrev pub given : Setting → Pixel → List ℕ
@@ -35,10 +35,16 @@ pub record Accepted (pixels : List ℕ) (n : ℕ) : Type 0 where
   pub long : length pixels ≡ n * 10
   pub each : (k : ℕ) → k < n → HoldsPixel (recordAt 10 k pixels)
 
--- "The ACES strip made from it .. one record for each of its records, in order, without the bytes beyond the last." (that this is "what
--- pixel to ACES writes for it into an output long enough" is the theorem made-is-written)
+-- the ACES strip that numbers of the codes make of a pixel strip: "one record for each of its records, in order, without the bytes beyond
+-- the last"
+abbrev pub madeBy : (number : Setting → ℕ → ℤ) → List ℕ → List ℕ
+madeBy number pixels =
+    written (λ r. acesRecord (settingOf r) (acesOf (number (settingOf r)) (matrixOf (settingOf r)) (pixelIn r))) (records 10 (length pixels / 10) pixels)
+
+-- "The ACES strip made from it": by the decoded numbers. (That it is "what pixel to ACES writes for it into an output long enough" is the
+-- theorem made-is-written.)
 abbrev pub made : List ℕ → List ℕ
-made pixels = written (pixelToAces .bytes) (records 10 (length pixels / 10) pixels)
+made = madeBy decoded
 
 -- the i-th number of an ACES record
 abbrev pub numberIn : (i : ℕ) → List ℕ → ℤ

@@ -1,7 +1,8 @@
--- What a search over all pixels finds: a pixel that gives the numbers; and the only one there is, where there is one.
+-- What a search over all pixels finds: a pixel that gives the numbers; the only one there is, where there is one; and the same by any numbers
+-- of the codes that agree.
 -- Assumes nothing.
 use mathlib.Core.Bool.{Bool, true, false}
-use mathlib.Core.Path.{_≡_, refl, sym, ap, _∙_, subst}
+use mathlib.Core.Path.{_≡_, refl, sym, ap, ap₂, _∙_, subst}
 use Prim.Native.Nat.{ℕ, zero, suc, _+_, _≤_, _<_}
 use native.Mathlib.Nat.{le-refl}
 use native.Mathlib.Omega.{arith}
@@ -15,8 +16,8 @@ use Rattle.rules.specs.declared.Triple.{Triple}
 use Rattle.rules.specs.declared.Found.{Found}
 use Rattle.rules.specs.declared.Found as found
 use Rattle.rules.specs.Choice.{choose}
-use Rattle.rules.specs.Matrix.{Matrix}
-use Rattle.rules.specs.WayBack.{pixel, acesOf, equal, equal3, orElse, firstFound, tried, pixelWith}
+use Rattle.rules.specs.Matrix.{Matrix, acesNumber}
+use Rattle.rules.specs.WayBack.{pixel, triple, acesOf, equal, equal3, orElse, firstFound, tried, pixelWith}
 
 -- ---- equal numbers
 pub equal-is : (x y : ℤ) → equal x y ≡ true → x ≡ y
@@ -149,3 +150,23 @@ module _ (number : ℕ → ℤ) (m : Matrix) (top : ℕ) (a : Triple) where
       go : (x : Found) → pixelWith number m top a ≡ x → x ≡ found.Found.Nothing
       go (found.Found.Pixel q) e = absurd (never q (found-gives q e))
       go found.Found.Nothing e = refl
+
+-- ---- numbers that agree on the codes give the same ACES numbers, and the same pixel is found
+pub same-aces : (number other : ℕ → ℤ) (m : Matrix) (p : Pixel) → number (p .red .0) ≡ other (p .red .0) → number (p .green .0) ≡ other (p .green .0) → number (p .blue .0) ≡ other (p .blue .0)
+    → acesOf number m p ≡ acesOf other m p
+same-aces number other m p er eg eb = λ i. triple (acesNumber m 0 (er i) (eg i) (eb i)) (acesNumber m 1 (er i) (eg i) (eb i)) (acesNumber m 2 (er i) (eg i) (eb i))
+
+same-first : (f g : ℕ → Found) (top : ℕ) → ((n : ℕ) → n ≤ top → f n ≡ g n) → firstFound f top ≡ firstFound g top
+unfolding firstFound
+same-first f g zero h = h 0 (le-refl 0)
+same-first f g (suc k) h = ap₂ orElse (same-first f g k (λ n l. h n (omega arith))) (h (suc k) (le-refl (suc k)))
+
+pub same-found : (number other : ℕ → ℤ) (m : Matrix) (top : ℕ) (a : Triple) → ((n : ℕ) → n ≤ top → number n ≡ other n) → pixelWith number m top a ≡ pixelWith other m top a
+unfolding pixelWith
+same-found number other m top a h =
+    same-first _ _ top
+    (λ r lr.
+    same-first _ _ top
+    (λ g lg.
+    same-first _ _ top
+    (λ b lb. ap (λ (x : Triple). choose (equal3 a x) (found.Found.Pixel (pixel r g b)) found.Found.Nothing) (same-aces number other m (pixel r g b) (h r lr) (h g lg) (h b lb)))))

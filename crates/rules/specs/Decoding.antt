@@ -12,9 +12,9 @@ use Rattle.rules.specs.Exact.{Scale, signal, VersusExact}
 abbrev pub unit : Fraction
 unit = ratio 1 (2 ^ 24)
 
--- "a whole number less than 1 away from the exact value times 2^24"
-abbrev pub nearness : Fraction
-nearness = whole 1
+-- "a whole number less than 1 away from the exact value times 2^24": how far a decoded number may be off, in units
+abbrev pub tolerance : Fraction
+tolerance = ratio 1 1
 
 abbrev pub Less : ℕ → ℕ → Type 0
 Less m n = m < n
@@ -28,15 +28,19 @@ AtMost m n = m ≤ n
 abbrev pub AtLeast : ℕ → ℕ → Type 0
 AtLeast m n = n ≤ m
 
--- y is a decoded number of the code n, which is in the toe or not
-pub data DecodesPart (k : Scale) (n : ℕ) (y : ℤ) : Bool → Type 0 where
+-- y is a decoded number of the code n, which is in the toe or not; in the power part it is less than e away
+pub data DecodesPart (e : Fraction) (k : Scale) (n : ℕ) (y : ℤ) : Bool → Type 0 where
   -- "In the toe the scene number is the exact value times 2^24, to the nearest whole number, a half going up"
-  toe : y ≡ nearest (toeValue (k .curve) (signal k (whole n)) *ℚ whole (2 ^ 24)) → DecodesPart k n y true
-  -- "In the power part it is a whole number less than 1 away from the exact value times 2^24": y - 1 is below that, and y + 1 above it
+  toe : y ≡ nearest (toeValue (k .curve) (signal k (whole n)) *ℚ whole (2 ^ 24)) → DecodesPart e k n y true
+  -- "In the power part it is a whole number less than .. away from the exact value times 2^24": y - e is below that, and y + e above it
   power :
-      VersusExact Less k (whole n) ((integer y -ℚ nearness) *ℚ unit)
-      → VersusExact Greater k (whole n) ((integer y +ℚ nearness) *ℚ unit)
-      → DecodesPart k n y false
+      VersusExact Less k (whole n) ((integer y -ℚ e) *ℚ unit)
+      → VersusExact Greater k (whole n) ((integer y +ℚ e) *ℚ unit)
+      → DecodesPart e k n y false
 
+abbrev pub DecodesWithin : Fraction → Scale → ℕ → ℤ → Type 0
+DecodesWithin e k n y = DecodesPart e k n y (inToe (k .curve) (signal k (whole n)))
+
+-- what 01 asks of a decoded number
 abbrev pub Decodes : Scale → ℕ → ℤ → Type 0
-Decodes k n y = DecodesPart k n y (inToe (k .curve) (signal k (whole n)))
+Decodes = DecodesWithin tolerance

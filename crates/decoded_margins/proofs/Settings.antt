@@ -1,0 +1,84 @@
+-- The margins of every code of every valid setting, computed. Several declarations, since what antt keeps while it computes one is free for
+-- the next: all in one took 1.5 GB.
+-- Assumes nothing.
+use mathlib.Core.Bool.{Bool, true, false}
+use mathlib.Core.List.{List, [], _∷_}
+use Prim.Native.Nat.{ℕ, zero, suc}
+use lib.Dec.{T}
+use lib.ListN.{take, drop}
+use Rattle.rules.specs.Choice.{choose}
+use Rattle.rules.specs.declared.Setting.{Setting}
+use Rattle.rules.specs.Setting.{curves, widthsOf, eisOf, topOf, Valid}
+use Rattle.rules.specs.Exact.{scaleOf}
+use Rattle.rules.proofs.Settings.{forAll, forSettings, for-valid, first, others}
+use Rattle.table.specs.Table.{logC3Table, logC4Table, tableOf}
+use Rattle.decoded_margins.proofs.Margins.{marginTest}
+
+-- ---- a test of a list from tests of its parts
+join : (x y : Bool) → T x → T y → T (choose x y false)
+join true y h g = g
+join false y h g = h
+
+-- of each number
+abbrev Each : List ℕ → (ℕ → Bool) → Type 0
+Each [] p = Unit {0}
+Each (n ∷ ns) p = T (p n) × Each ns p
+
+each : (ns : List ℕ) (p : ℕ → Bool) → Each ns p → T (forAll ns p)
+each [] p h = tt
+each (n ∷ ns) p h = join (p n) (forAll ns p) (h .0) (each ns p (h .1))
+
+-- of the first k numbers and of the others
+parts : (k : ℕ) (ns : List ℕ) (p : ℕ → Bool) → T (forAll (take k ns) p) → T (forAll (drop k ns) p) → T (forAll ns p)
+parts zero ns p h g = g
+parts (suc k) [] p h g = g
+parts (suc k) (n ∷ ns) p h g = join (p n) (forAll ns p) (first (p n) (forAll (take k ns) p) h) (parts k ns p (others (p n) (forAll (take k ns) p) h) g)
+
+-- ---- of a setting. It is no abbreviation, so that what is computed once is not computed again where the parts are joined.
+test : (curve width ei : ℕ) → Bool
+test c w e = marginTest (scaleOf (record { curve = c; width = w; ei = e })) (topOf w) (tableOf (record { curve = c; width = w; ei = e }))
+
+-- ---- computed
+c3-w10 : T (forAll (eisOf 3) (λ e. test 3 10 e))
+unfolding test tableOf logC3Table logC4Table
+c3-w10 = tt
+
+c3-w12 : T (forAll (eisOf 3) (λ e. test 3 12 e))
+unfolding test tableOf logC3Table logC4Table
+c3-w12 = tt
+
+-- the first three EI values, the next three, ..
+c3-w16-first : T (forAll (take 3 (eisOf 3)) (λ e. test 3 16 e))
+unfolding test tableOf logC3Table logC4Table
+c3-w16-first = tt
+
+c3-w16-second : T (forAll (take 3 (drop 3 (eisOf 3))) (λ e. test 3 16 e))
+unfolding test tableOf logC3Table logC4Table
+c3-w16-second = tt
+
+c3-w16-third : T (forAll (take 3 (drop 6 (eisOf 3))) (λ e. test 3 16 e))
+unfolding test tableOf logC3Table logC4Table
+c3-w16-third = tt
+
+c3-w16-last : T (forAll (drop 9 (eisOf 3)) (λ e. test 3 16 e))
+unfolding test tableOf logC3Table logC4Table
+c3-w16-last = tt
+
+c4 : T (forAll (widthsOf 4) (λ w. forAll (eisOf 4) (λ e. test 4 w e)))
+unfolding test tableOf logC3Table logC4Table
+c4 = tt
+
+-- ---- all of them
+c3-w16 : T (forAll (eisOf 3) (λ e. test 3 16 e))
+c3-w16 =
+    parts 3 (eisOf 3) (λ e. test 3 16 e) c3-w16-first
+    (parts 3 (drop 3 (eisOf 3)) (λ e. test 3 16 e) c3-w16-second (parts 3 (drop 6 (eisOf 3)) (λ e. test 3 16 e) c3-w16-third c3-w16-last))
+
+all-clear : T (forSettings test)
+all-clear =
+    each curves (λ c. forAll (widthsOf c) (λ w. forAll (eisOf c) (λ e. test c w e)))
+    (each (widthsOf 3) (λ w. forAll (eisOf 3) (λ e. test 3 w e)) (c3-w10, (c3-w12, (c3-w16, tt))), (c4, tt))
+
+pub margins : (s : Setting) → Valid s → T (marginTest (scaleOf s) (topOf (s .width)) (tableOf s))
+unfolding test
+margins s v = for-valid test all-clear s v

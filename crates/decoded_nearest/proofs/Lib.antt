@@ -1,0 +1,2 @@
+pub mod Only
+pub mod Theorems

@@ -1,0 +1,60 @@
+-- THE MASTER DEPENDS ON THE PUBLISHED PAPERS ALONE: whoever decodes each code to the nearest whole number, as the published curves say,
+-- makes the same ACES strip of an accepted pixel strip, byte for byte, and finds the same pixel on the way back. None of our tables is
+-- needed to read a master.
+-- Assumes nothing.
+use mathlib.Core.Path.{_≡_, refl, ap, ap₂, sym, _∙_}
+use mathlib.Core.List.{List, _++_}
+use Prim.Native.Nat.{ℕ, zero, suc, _<_}
+use native.Mathlib.Omega.{arith}
+use lib.IntN.{ℤ}
+use lib.ListN.{length, take, drop}
+use Rattle.rules.specs.declared.Found.{Found}
+use Rattle.rules.specs.declared.Setting.{Setting}
+use Rattle.rules.specs.declared.Triple.{Triple}
+use Rattle.rules.specs.Setting.{topOf, Valid}
+use Rattle.rules.specs.Matrix.{matrixOf}
+use Rattle.rules.specs.Record.{settingOf}
+use Rattle.rules.specs.Contents.{pixelIn, acesRecord}
+use Rattle.rules.specs.Strip.{records, recordAt, written}
+use Rattle.rules.specs.WayBack.{acesOf, pixelWith}
+use Rattle.rules.proofs.Search.{same-aces, same-found}
+use Rattle.rules.proofs.Settings.{code-passed}
+use Rattle.curve.specs.Decoded.{decoded}
+use Rattle.decoded_nearest.specs.Nearest.{NearestNumbers}
+use Rattle.decoded_nearest.proofs.Theorems.{nearest-numbers}
+use Rattle.wayback.specs.Back.{pixelFor}
+use Rattle.strip.proofs.First.{at-start, at-later}
+use Rattle.promise.specs.Words.{HoldsPixel, Accepted, madeBy, made}
+use Rattle.promise.proofs.Strips.{whole-records}
+
+-- functions that agree on n records write the same
+same-written : (f g : List ℕ → List ℕ) (size n : ℕ) (s : List ℕ) → ((k : ℕ) → k < n → f (recordAt size k s) ≡ g (recordAt size k s))
+    → written f (records size n s) ≡ written g (records size n s)
+unfolding written records
+same-written f g size zero s h = refl
+same-written f g size (suc n) s h =
+    ap₂ (λ (x y : List ℕ). x ++ y) (ap f (sym (at-start size s)) ∙ h 0 (omega arith) ∙ ap g (at-start size s))
+    (same-written f g size n (drop size s) (λ k l. ap f (sym (at-later size k s)) ∙ h (suc k) (omega arith) ∙ ap g (at-later size k s)))
+
+module _ (number : Setting → ℕ → ℤ) (near : NearestNumbers number) where
+  same-record : (r : List ℕ) → HoldsPixel r
+      → acesOf (number (settingOf r)) (matrixOf (settingOf r)) (pixelIn r) ≡ acesOf (decoded (settingOf r)) (matrixOf (settingOf r)) (pixelIn r)
+  same-record r h =
+      let s = settingOf r in
+      let p = pixelIn r in
+      same-aces (number s) (decoded s) (matrixOf s) p (nearest-numbers number near s (h .valid) (p .red .0) (code-passed s (p .red .0) (h .pixel .red)))
+      (nearest-numbers number near s (h .valid) (p .green .0) (code-passed s (p .green .0) (h .pixel .green)))
+      (nearest-numbers number near s (h .valid) (p .blue .0) (code-passed s (p .blue .0) (h .pixel .blue)))
+
+  -- THE ACES STRIP is the same, byte for byte
+  pub papers-alone : (pixels : List ℕ) (n : ℕ) → Accepted pixels n → madeBy number pixels ≡ made pixels
+  papers-alone pixels n a =
+      rw (whole-records pixels n a)
+      (same-written (λ r. acesRecord (settingOf r) (acesOf (number (settingOf r)) (matrixOf (settingOf r)) (pixelIn r)))
+      (λ r. acesRecord (settingOf r) (acesOf (decoded (settingOf r)) (matrixOf (settingOf r)) (pixelIn r)))
+      10 n pixels (λ k l. ap (acesRecord (settingOf (recordAt 10 k pixels))) (same-record (recordAt 10 k pixels) (a .each k l))))
+
+  -- THE WAY BACK finds the same pixel, or none, for any three numbers
+  pub papers-alone-back : (s : Setting) → Valid s → (a : Triple) → pixelWith (number s) (matrixOf s) (topOf (s .width)) a ≡ pixelFor s a
+  unfolding pixelFor
+  papers-alone-back s v a = same-found (number s) (decoded s) (matrixOf s) (topOf (s .width)) a (λ n h. nearest-numbers number near s v n h)
