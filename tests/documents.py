@@ -135,6 +135,7 @@ def blocks(document, text):
 
 
 JOINED = {", ", " and ", ", and ", "; ", " .. ", " or "}
+PATH = r"(?:[\w-]+/)*[\w-]+\.(?:md|py|rt|rs|c|h|antt)"
 
 
 class Reader:
@@ -148,7 +149,11 @@ class Reader:
     def read(self):
         parts = re.split("`([^`]*)`", re.sub('"[^"]*"', '""', self.block.text))
         last, listed = None, []  # the name before, and those of a list: `a`, `b` in `path`
-        for before, name in zip(parts[::2], parts[1::2]):
+        for before, name in zip(parts[::2], parts[1::2] + [None]):
+            for bare in re.findall(rf"(?<![\w./-]){PATH}(?![\w/])", before):
+                self.path(bare)
+            if name is None:
+                break
             word = re.search(r"(\w+) $", before)
             if word and word[1] in self.sources.crates:
                 self.crate, self.file = word[1], None
@@ -174,7 +179,7 @@ class Reader:
         first, column = name.split()[0], self.block.column
         if name in ALLOWED and (column not in PLACES or name in ("requires", "ensures")):
             return
-        if "/" in first or re.fullmatch(r"[\w-]+\.(md|py|rt|rs|c|h|antt)", first) or self.entry(name):
+        if "/" in first or re.fullmatch(PATH, first) or self.entry(name):
             return self.path(first)
         if column == "Test":
             test = ROOT / f"tests/{self.test}.py"
@@ -241,7 +246,7 @@ class Reader:
 
 def tests(sources, block):
     """each word of the column of tests is a stored run or a test that the gate runs"""
-    for word in re.split("[,;]", re.sub("`[^`]*`.*", "", block.text)):
+    for word in re.split("[,;]", re.sub(r"`[^`]*`.*|\(.*\)", "", block.text)):
         word = word.strip()
         stored = (ROOT / "crates" / word / "stdout").exists()
         if word and word != "unit test" and not (word.isalpha() and (stored or f"tests/{word}.py" in sources.gate)):
