@@ -100,6 +100,11 @@ class Sources:
         return [path for path, crate, folder, stem in self.placed
                 if name in self.declared[path] and crate in crates and folder in folders and file in (None, stem)]
 
+    def outside(self, f):
+        """whether other crates see a function, if it is public: it is in lib.rt or in a public module"""
+        library = self.code.get(f"crates/{f.crate}/src/lib.rt", "")
+        return f.path.endswith("/lib.rt") or f"pub mod {Path(f.path).stem};" in library
+
     def called(self, f):
         """whether another library, or another file of its own crate, calls a function"""
         inside = rf"\b{f.name}\b"
@@ -272,6 +277,8 @@ def surface(sources, found):
             yield f"{f.path}: {f.name} is a public function of a program"
         elif f.public and f not in listed and not sources.called(f):
             yield f"{f.path}: {f.name} is public, is not listed as open, and no other crate calls it"
+        elif f.public and sources.outside(f) and "ensures" not in f.contract:
+            yield f"{f.path}: {f.name} is public and has no `ensures`"
 
 
 def complaints(sources, texts):
