@@ -88,7 +88,7 @@ class Sources:
             elif path.suffix == ".edit":
                 self.declared[name] = {path.stem}
         self.placed = [(path, *path.split("/")[1:3], Path(path).stem) for path in self.declared]
-        self.tool = "\n".join(p.read_text() for p in sorted((ROOT / "tool/src").glob("*.rs")))
+        self.tool = "\n".join(p.read_text() for p in sorted((ROOT / "tool/src").rglob("*.rs")))
         self.gate = (ROOT / "gate").read_text()
         self.texts = [p.read_text() for p in sorted((ROOT / "crates").glob("*/s[rp]*/*")) if p.is_file()]
         scripts = "\n".join(p.read_text() for p in ROOT.iterdir() if p.is_file() and os.access(p, os.X_OK))
