@@ -169,7 +169,7 @@ class Reader:
             if word and (word[1] == "test" or (ROOT / f"tests/{word[1]}.py").exists()):
                 self.test = word[1]
             place = self.one(name)
-            for other in listed if before in (" in ", " (") else ():
+            for other in listed if re.sub(r" \([^()]*\)", "", before) in (" in ", " (") else ():
                 if other.split(".")[-1] not in self.sources.declared.get(place, {other.split(".")[-1]}):
                     self.complain(other, f"is not in {place}")
             listed = [] if place else listed + [name] if before in JOINED else [name]
