@@ -1,0 +1,366 @@
+#!/usr/bin/env python3
+"""documents.py [--papers FOLDER]: hold README.md, docs/PROMISES.md and docs/DECISIONS.md to the
+sources. Whatever they name in backticks has to exist and to stand where they say, every must-fail
+edit and every open function has to be in PROMISES.md, and every crate in README.md. How names are
+written is said at the head of PROMISES.md. With the folder of the demands and of 01, which are not
+in the repository, what the tables quote is also compared with them, letter for letter."""
+import os, re, sys
+from collections import namedtuple
+from pathlib import Path
+
+ROOT = Path(__file__).resolve().parent.parent
+README, PROMISES, DECISIONS = "README.md", "docs/PROMISES.md", "docs/DECISIONS.md"
+
+# Columns of the tables, and where the names in them stand: folders of a crate.
+PLACES = {"Definition": ("specs", "src"), "Theorem or contract": ("proofs", "src"),
+          "Must-fail edit": ("must-fail", "proofs"), "Open function": ("src",), "Stated by": ("specs",)}
+ANYWHERE = ("specs", "proofs", "src", "must-fail")
+
+# Names that are of nothing in the repository, and why.
+ALLOWED = {
+    "requires": "a word of the language", "ensures": "a word of the language",
+    "&[u8]": "a type of the language", "&mut u64": "a type of the language",
+    "rt": "the toolchain's command", "rt ci": "the toolchain's command",
+    "rt check lister": "the toolchain's command", "axioms=": "a word of the toolchain's reports",
+    "axioms=2": "a word of the toolchain's reports", "N passed, 0 failed": "the toolchain's last line",
+    "cp": "a program of the system", "perf record": "a program of the system",
+    "nan": "a value of the logic's floats",
+    "/dev/pts/..": "files of the system", "/dev/tty..": "files of the system",
+    "-": "standard input, on the command line", ".OUT.ropeinstant-PID-TIME": "a name that the command makes",
+}
+
+Block = namedtuple("Block", "document line column text")  # a paragraph, or a cell and its column
+Function = namedtuple("Function", "crate path type name public contract")
+
+
+# ---- the sources
+
+def stated(text):
+    """the names that a file of definitions or proofs states; a case or a field by its type's name"""
+    names, owner, margin = set(), None, 0
+    for line in text.splitlines():
+        form = re.match(r"( *)((?:(?:abbrev|unfoldable|pub|record|data) )*)([^\s:]+)( :)?", line)
+        if not form:
+            continue
+        indent, words, name = len(form[1]), form[2].split(), form[3]
+        if owner and indent <= margin:
+            owner = None
+        if "record" in words or "data" in words:
+            names.add(name)
+            owner, margin = name, indent
+        elif form[4] and owner:
+            names.add(f"{owner}.{name}")
+        elif form[4] and (indent == 0 or "pub" in words):
+            names.add(name)
+    return names
+
+
+def coded(crate, path, text):
+    """the names that a file of code declares, and its functions with their contracts"""
+    names, functions, owner = set(), [], None
+    lines = text.splitlines()
+    for i, line in enumerate(lines):
+        owner = re.match(r"impl (\w+)", line)[1] if line.startswith("impl ") else None if line == "}" else owner
+        item = re.match(r'\s*(pub )?(?:extern "C" )?(fn|struct|enum|const) (\w+)', line)
+        if not item:
+            continue
+        names |= {item[3], f"{owner}::{item[3]}"} if owner else {item[3]}
+        if item[2] == "fn":
+            end = next(j for j in range(i, len(lines)) if lines[j].endswith("{"))
+            functions.append(Function(crate, path, owner, item[3], bool(item[1]), "\n".join(lines[i + 1:end])))
+    return names, functions
+
+
+class Sources:
+    def __init__(self):
+        self.crates = sorted(p.name for p in (ROOT / "crates").iterdir() if p.is_dir())
+        listed = re.findall(r"\w+", re.sub("#.*", "", (ROOT / "crates.txt").read_text()))
+        self.libraries = set(listed) - set(self.crates)  # the toolchain's
+        self.declared, self.functions, self.code = {}, [], {}
+        for path in sorted((ROOT / "crates").rglob("*")):
+            name, crate = str(path.relative_to(ROOT)), path.relative_to(ROOT).parts[1]
+            if path.suffix == ".rt":
+                self.code[name] = re.sub("//.*", "", path.read_text())
+                self.declared[name], functions = coded(crate, name, self.code[name])
+                self.functions += functions
+            elif path.suffix == ".antt" and path.parent.name in ("specs", "proofs"):
+                self.declared[name] = stated(path.read_text())
+            elif path.suffix == ".edit":
+                self.declared[name] = {path.stem}
+        self.placed = [(path, *path.split("/")[1:3], Path(path).stem) for path in self.declared]
+        self.tool = "\n".join(p.read_text() for p in sorted((ROOT / "tool/src").rglob("*.rs")))
+        self.gate = (ROOT / "gate").read_text()
+        self.texts = [p.read_text() for p in sorted((ROOT / "crates").glob("*/s[rp]*/*")) if p.is_file()]
+        scripts = "\n".join(p.read_text() for p in ROOT.iterdir() if p.is_file() and os.access(p, os.X_OK))
+        literals = re.findall(r'"[^"\n]*"', "\n".join([self.tool, *self.code.values()]))
+        self.words = {*re.findall(r"[\w-]+", " ".join([scripts, *literals]))}  # that programs take or print
+
+    def stands(self, name, crates, folders, file=None):
+        """the files in which a name stands, in these crates and folders of theirs"""
+        return [path for path, crate, folder, stem in self.placed
+                if name in self.declared[path] and crate in crates and folder in folders and file in (None, stem)]
+
+    def outside(self, f):
+        """whether other crates see a function, if it is public: it is in lib.rt or in a public module"""
+        library = self.code.get(f"crates/{f.crate}/src/lib.rt", "")
+        return f.path.endswith("/lib.rt") or f"pub mod {Path(f.path).stem};" in library
+
+    def called(self, f):
+        """whether another library, or another file of its own crate, calls a function"""
+        inside = rf"\b{f.name}\b"
+        outside = rf"\b{f.type}::{f.name}\b|\.{f.name}\(" if f.type else rf"\b{f.crate}::(\w+::)*{f.name}\b"
+        for path, text in self.code.items():
+            own = path.split("/")[1] == f.crate
+            if path != f.path and path.split("/")[-1] != "main.rt" and re.search(inside if own else outside, text):
+                return True
+        return False
+
+
+# ---- the documents
+
+def blocks(document, text):
+    """the paragraphs and the cells of a document, without the lines that are set as code"""
+    found, titles, paragraph = [], None, None
+    for number, line in enumerate(text.splitlines(), 1):
+        if line.startswith("|"):
+            cells = [c.strip() for c in line.strip().strip("|").split("|")]
+            if titles is None:
+                titles = cells
+            elif not re.fullmatch("[|: -]+", line):
+                found += [Block(document, number, *pair) for pair in zip(titles, cells)]
+            paragraph = None
+        elif not line.strip() or line.startswith(("    ", "#")):
+            titles = paragraph = None
+        elif paragraph is None:
+            paragraph = len(found)
+            found.append(Block(document, number, None, line))
+        else:
+            found[paragraph] = found[paragraph]._replace(text=found[paragraph].text + " " + line.strip())
+    return found
+
+
+JOINED = {", ", " and ", ", and ", "; ", " .. ", " or "}
+PATH = r"(?:[\w-]+/)*[\w-]+\.(?:md|py|rt|rs|c|h|antt)"
+
+
+class Reader:
+    """reads one block: each name in backticks, with the crate and the file that stand before it"""
+
+    def __init__(self, sources, block, folder):
+        self.sources, self.block, self.folder = sources, block, folder
+        self.crate = self.file = self.test = None
+        self.edits, self.wrong = set(), []
+
+    def read(self):
+        parts = re.split("`([^`]*)`", re.sub('"[^"]*"', '""', self.block.text))
+        last, listed = None, []  # the name before, and those of a list: `a`, `b` in `path`
+        for before, name in zip(parts[::2], parts[1::2] + [None]):
+            for bare in re.findall(rf"(?<![\w./-]){PATH}(?![\w/])", before):
+                self.path(bare)
+            if name is None:
+                break
+            word = re.search(r"(\w+) $", before)
+            if word and word[1] in self.sources.crates:
+                self.crate, self.file = word[1], None
+            elif last in self.sources.crates and before in (" ", ": ", " ("):
+                self.crate, self.file = last, None
+            elif self.block.column is None and before not in JOINED:
+                self.crate = self.file = None
+            if word and (word[1] == "test" or (ROOT / f"tests/{word[1]}.py").exists()):
+                self.test = word[1]
+            place = self.one(name)
+            for other in listed if re.sub(r" \([^()]*\)", "", before) in (" in ", " (") else ():
+                if other.split(".")[-1] not in self.sources.declared.get(place, {other.split(".")[-1]}):
+                    self.complain(other, f"is not in {place}")
+            listed = [] if place else listed + [name] if before in JOINED else [name]
+            last = name
+        return self
+
+    def complain(self, name, why):
+        self.wrong.append(f"{self.block.document}:{self.block.line}: `{name}` {why}")
+
+    def one(self, name):
+        """look for one name; if it is a path, which"""
+        first, column = name.split()[0], self.block.column
+        if name in ALLOWED and (column not in PLACES or name in ("requires", "ensures")):
+            return
+        if "/" in first or re.fullmatch(PATH, first) or self.entry(name):
+            return self.path(first)
+        if column == "Test":
+            test = ROOT / f"tests/{self.test}.py"
+            text = test.read_text() if test.exists() else self.sources.tool  # "unit test": of the command
+            if not re.search(rf"\b(def|fn) {name}\(", text):
+                self.complain(name, f"is no function of the test {self.test}")
+        elif column in PLACES or name not in {*self.sources.crates, *self.sources.libraries}:
+            self.inside(name)
+
+    def entry(self, name):
+        """whether a word is the name of a file or folder of the repository or of a crate"""
+        if self.block.column in PLACES or not re.fullmatch("[a-z-]+", name):
+            return False
+        return (ROOT / name).exists() or any((ROOT / "crates").glob(f"*/{name}"))
+
+    def path(self, name):
+        """a path from the repository, its crates, the crate before it, or the path before it; a word in
+        capitals stands for any name"""
+        if "target" in name.split("/"):
+            return None if name in self.sources.gate else self.complain(name, "is not built by ./gate")
+        folders = [ROOT, ROOT / "crates"] + ([ROOT / "crates" / self.crate] if self.crate else [])
+        folders += [self.folder, *self.folder.parents] if self.folder else []
+        for folder in folders:
+            if (folder / name).exists():
+                self.folder = (folder / name).resolve()
+                return str(self.folder.relative_to(ROOT))
+        pattern = re.sub(r"\b[A-Z]{3,}\b", "*", name)
+        if not any(ROOT.glob(pattern)) and not any((ROOT / "crates").glob(f"*/{pattern}")):
+            self.complain(name, "is no path of the repository")
+
+    def inside(self, name):
+        """a definition, a theorem, something of the code, or an edit"""
+        column, file, written = self.block.column, None, name
+        crates, folders = [self.crate] if self.crate else self.sources.crates, PLACES.get(column, ANYWHERE)
+        name = re.sub(r"(?<=\w)\(.*\)$", "", name)
+        first, colons, rest = name.partition("::")
+        if first in self.sources.libraries:
+            return
+        if colons and first in self.sources.crates:
+            crates, name = [first], rest
+        elif column in PLACES and not self.crate:
+            return self.complain(written, "has no crate before it")
+        elif re.fullmatch(r"[A-Z]\w*\.[^ ]+", name):
+            file, name = name.split(".", 1)
+        elif column in PLACES and self.sources.stands(name, crates, folders, self.file or ""):
+            file = self.file
+        elif column in PLACES:  # not in the file before it: something of the code, or an edit
+            folders = [f for f in folders if f in ("src", "must-fail")]
+        found = self.sources.stands(name, crates, folders, file)
+        self.file = file or self.file
+        self.edits |= {path for path in found if path.endswith(".edit") and self.crate}
+        if not found and (column in PLACES or not self.said(written)):
+            where = crates[0] if len(crates) == 1 else "any crate"
+            self.complain(written, f"is not in {' or '.join(folders)} of {where}")
+
+    def said(self, name):
+        """a file of definitions or proofs, a word that a program prints or takes, or code as it stands"""
+        if re.fullmatch("[A-Z][A-Za-z]+", name):
+            return any(stem == name and self.crate in (None, crate) for _, crate, _, stem in self.sources.placed)
+        if re.fullmatch("[a-z-]+( [a-z.-]+)?", name) and name.split()[0] in self.sources.words:
+            return True
+        return not re.fullmatch(r"[A-Za-z_][\w.:-]*", name) and any(name in text for text in self.sources.texts)
+
+
+def tests(sources, block):
+    """each word of the column of tests is a stored run or a test that the gate runs"""
+    for word in re.split("[,;]", re.sub(r"`[^`]*`.*|\(.*\)", "", block.text)):
+        word = word.strip()
+        stored = (ROOT / "crates" / word / "stdout").exists()
+        if word and word != "unit test" and not (word.isalpha() and (stored or f"tests/{word}.py" in sources.gate)):
+            yield f"{block.document}:{block.line}: {word} is no test of ./gate"
+
+
+def surface(sources, found):
+    """the open functions: no `requires`, an `ensures` by the definitions named; others are for other crates only"""
+    listed, f = set(), None
+    for block in found:
+        if block.column == "Open function":
+            cell = re.fullmatch(r"(\w+) `(\w+)`", block.text)
+            f = next((f for f in sources.functions if cell and (f.crate, f.name) == cell.groups() and f.public), None)
+            listed.add(f)
+            if f is None or "requires" in f.contract or "ensures" not in f.contract:
+                yield f"{block.document}:{block.line}: {block.text} is not public with `ensures` and no `requires`"
+        elif block.column == "Stated by" and f:
+            for name in re.findall(r"`(?:\w+\.)?(\w+)`", block.text):
+                if not re.search(rf"\b{name}\b", f.contract):
+                    yield f"{block.document}:{block.line}: the contract of {f.crate} `{f.name}` does not cite {name}"
+    for f in sources.functions:
+        if f.public and f.path.endswith("main.rt"):
+            yield f"{f.path}: {f.name} is a public function of a program"
+        elif f.public and f not in listed and not sources.called(f):
+            yield f"{f.path}: {f.name} is public, is not listed as open, and no other crate calls it"
+        elif f.public and sources.outside(f) and "ensures" not in f.contract:
+            yield f"{f.path}: {f.name} is public and has no `ensures`"
+
+
+def complaints(sources, texts):
+    wrong, edits = [], set()
+    for document, text in texts.items():
+        row = folder = None
+        for block in blocks(document, text):
+            reader = Reader(sources, block, folder if block.line == row else None).read()
+            row, folder = block.line, reader.folder
+            wrong += reader.wrong
+            edits |= reader.edits if document == PROMISES else set()
+            wrong += tests(sources, block) if block.column == "Test" else ()
+    wrong += surface(sources, blocks(PROMISES, texts[PROMISES]))
+    there = [path for path in sources.declared if path.endswith(".edit")]
+    wrong += [f"{path} is not named in {PROMISES}" for path in there if path not in edits]
+    said = re.findall(r"edits, (\d+) of them", texts[README])
+    wrong += [f"{README}: there are {len(there)} edits, not {n}" for n in said if int(n) != len(there)]
+    wrong += [f"crates/{c} is not in {README}" for c in sources.crates if f"`crates/{c}`" not in texts[README]]
+    return wrong
+
+
+# ---- the quotations
+
+def quoted(texts, papers):
+    """what the columns Sentence and Place quote: each part between `..` is in one of the papers, in this order"""
+    found = [b for d, t in texts.items() for b in blocks(d, t) if papers and b.column in ("Sentence", "Place")]
+    for block in found:
+        for quote in re.findall('"([^"]*)"', block.text):
+            parts = [re.escape(p.strip()) for p in quote.split("..")]
+            if not any(re.search(".*?".join(parts), paper) for paper in papers):
+                yield f'{block.document}:{block.line}: nobody wrote "{quote}"'
+
+
+# ---- the test of this test
+
+def damaged(sources, texts):
+    """copies of the documents, each with one fault, and the word that a complaint about it has to hold"""
+    def swap(old, new, document=PROMISES):
+        return {**texts, document: texts[document].replace(old, new)}
+
+    def first(column, form, wanted=lambda m: True):
+        cells = [re.search(form, b.text) for b in blocks(PROMISES, texts[PROMISES]) if b.column == column]
+        return next(m for m in cells if m and wanted(m))
+
+    theorem = first("Theorem or contract", r"`(\w+\.[\w-]+)`")[1]
+    crate, edit = first("Must-fail edit", r"(\w+) `(\w+)`",
+                        lambda m: sources.stands(m[2], [m[1]], ["must-fail"])).groups()
+    other = next(c for c in sources.crates if not sources.stands(edit, [c], ["must-fail"]))
+    alone = {(f.crate, f.name) for f in sources.functions if not sources.called(f)}
+    open_one = first("Open function", r"(\w+) `(\w+)`", lambda m: m.groups() in alone)
+    asks = next(f for f in sources.functions if f.public and "requires" in f.contract)
+    path = re.search(r"`(include/[\w.]+)`", texts[README])[1]
+    named, place = re.search(r"(`\w+`) in (`crates/\S+\.rt`)", texts[DECISIONS]).groups()
+    yield "a theorem renamed", swap(f"`{theorem}`", f"`{theorem}-renamed`"), f"{theorem}-renamed"
+    yield "an edit not named", swap(f"`{edit}`", "none"), f"{edit}.edit"
+    yield "an edit of another crate", swap(f"{crate} `{edit}`", f"{other} `{edit}`"), f"`{edit}`"
+    yield "a path that is not there", swap(f"`{path}`", f"`{path}.no`", README), f"{path}.no"
+    yield "a name of another file", swap(f"{named} in {place}", f"`main` in {place}", DECISIONS), "`main` is not in"
+    yield "an open function with a `requires`", swap(open_one[0], f"{asks.crate} `{asks.name}`"), asks.name
+    yield "an open function not listed", swap(f"| {open_one[0]} |", "| |"), open_one[2]
+
+
+def unseen(sources, texts, papers):
+    """the faults that this test does not see"""
+    before = {*complaints(sources, texts), *quoted(texts, papers)}
+    for what, copy, word in damaged(sources, texts):
+        if not any(word in c for c in {*complaints(sources, copy)} - before):
+            yield f"tests/documents.py does not see {what}"
+    if papers and {*quoted({PROMISES: texts[PROMISES].replace('"', '"no ', 1)}, papers)} <= before:
+        yield "tests/documents.py does not see a sentence that nobody wrote"
+
+
+def main():
+    sources, texts, papers = Sources(), {d: (ROOT / d).read_text() for d in (README, PROMISES, DECISIONS)}, []
+    if sys.argv[1:]:
+        papers = [" ".join(p.read_text().split()) for p in sorted(Path(sys.argv[-1]).glob("0[01]-*.md"))]
+        if sys.argv[1:-1] != ["--papers"] or len(papers) != 2:
+            sys.exit("documents.py [--papers FOLDER], where the folder holds 00-*.md and 01-*.md")
+    wrong = [*unseen(sources, texts, papers), *complaints(sources, texts), *quoted(texts, papers)]
+    print("\n".join(wrong + [f"documents: {len(wrong)} wrong"]))
+    sys.exit(1 if wrong else 0)
+
+
+if __name__ == "__main__":
+    main()
