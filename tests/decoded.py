@@ -1,7 +1,7 @@
 #!/usr/bin/env python3
 """decoded.py PROGRAM: have PROGRAM (target/bin/codes) decode every code of every setting, and settings and codes that must be
-refused, and hold each answer to the curves as 01 prints them, computed with 150 digits (powers) and fractions (the toe). Nothing
-of the project's code or tables is used."""
+refused, and hold each answer to the curves as 01 prints them, computed with 150 digits (powers) and fractions (the toe): each number
+is the nearest whole number of units. Nothing of the project's code or tables is used."""
 import subprocess, sys, time
 from decimal import Decimal, getcontext
 from fractions import Fraction
@@ -9,6 +9,7 @@ from math import floor
 
 getcontext().prec = 150
 UNIT = 2 ** 24
+HALF = Decimal("0.5")
 DIGITS = 130  # of a value that is compared; the computation is good to more
 CONSTANTS = {  # EI: cut b c d e f
     160: "0.005561 0.080216 0.269036 0.381991 5.842037 0.092778",
@@ -84,24 +85,22 @@ def main():
     assert lines[len(accepted):] == [f"refused {refusal(*r)}" for r in odd] + ["tail 1", ""], "a refusal differs"
     answers = iter(lines)
     tiny = Decimal(10) ** (10 - DIGITS)
-    nearest, worst = 0, Decimal(0)
+    worst = Decimal(0)
     for s in SETTINGS:
         last = None
         for toe, value in exact(*s):
             y = int(next(answers))
             if toe:
                 assert y == floor(value + Fraction(1, 2)), (s, y, value)
-                nearest += 1
             else:
                 off = abs(y - value)
-                assert off + tiny < 1, (s, y, value)
-                nearest += off + tiny < Decimal("0.5")
+                assert off + tiny < HALF, (s, y, value)
                 worst = max(worst, off)
             assert last is None or last < y, (s, y)
             last = y
     assert len(accepted) == 846848
-    print(f"decoded: {len(accepted)} codes of {len(SETTINGS)} settings are less than 1 unit from the exact value, and rise with the code")
-    print(f"decoded: {nearest} of them are the nearest whole number; the largest distance in the power part is {worst:.9f}")
+    print(f"decoded: {len(accepted)} codes of {len(SETTINGS)} settings have the nearest whole number to the exact value, and rise with the code")
+    print(f"decoded: the largest distance in the power part is {worst:.9f}")
     print(f"decoded: {len(odd)} settings and codes are refused as listed ({time.time() - begun:.0f} s)")
 
 
