@@ -1,19 +1,20 @@
--- What decoding one code answers.
+-- What decoding one code gives.
 -- Assumes nothing.
+use mathlib.Core.List.{[], _∷_}
 use Prim.Native.Nat.{ℕ}
-use Rattle.rules.specs.declared.Check.{Check}
-use Rattle.rules.specs.declared.Check.the-variants.{Passed, Refused}
-use Rattle.rules.specs.declared.Scene.{Scene}
+use lib.IntN.{ℤ}
 use Rattle.rules.specs.declared.Setting.{Setting}
-use Rattle.rules.specs.Refusal.{then}
+use Rattle.rules.specs.Refusal.{then, numberOf}
+use Rattle.rules.specs.Result.{Result, done, refusedBy, single}
 use Rattle.rules.specs.Setting.{settingCheck, codeCheck}
 use Rattle.curve.specs.declared.Decoding.{Decoding}
 use Rattle.curve.specs.Decoded.{decoded}
 
-abbrev pub sceneAfter : Check → Scene → Decoding
-sceneAfter Passed y = Decoding.Scene y
-sceneAfter (Refused r) y = Decoding.Refused r
+-- the number and the values of each case of the answer
+abbrev pub decodingResult : Decoding → Result ℤ
+decodingResult (Decoding.Scene y) = done (y .0 ∷ [])
+decodingResult (Decoding.Refused why) = refusedBy (numberOf why) 0
 
--- "Within a record: setting, then .. (each channel's checks ..)": the first check that fails refuses
-unfoldable pub decodeAnswer : Setting → ℕ → Decoding
-decodeAnswer s n = sceneAfter (then (settingCheck s) (codeCheck s n)) (record { 0 = decoded s n })
+-- the decoded number, or the refusal of the first check that fails: 3, 4, 5, then 6
+unfoldable pub decodeResult : Setting → ℕ → Result ℤ
+decodeResult s n = single (then (settingCheck s) (codeCheck s n)) (decoded s n ∷ [])

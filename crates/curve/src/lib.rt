@@ -1,8 +1,12 @@
 // Decoding: the scene number of a code.
 ghost use mathlib.Core.Path.{_≡_};
+ghost use mathlib.Core.List.{[], _∷_};
+ghost use Rattle.rules.specs.Decoding.{Decodes};
+ghost use Rattle.rules.specs.Exact.{scaleOf};
+ghost use Rattle.rules.specs.Result.{Each, single};
 ghost use Rattle.rules.specs.Setting.{codeCheck, Valid};
 ghost use Rattle.curve.specs.Decoded.{decoded};
-ghost use Rattle.curve.specs.Answer.{sceneAfter, decodeAnswer};
+ghost use Rattle.curve.specs.Answer.{decodingResult, decodeResult};
 
 pub mod constants;
 pub mod decoder;
@@ -22,7 +26,7 @@ pub enum Decoding {
 
 fn decode_valid(s: Setting, n: Code) -> Decoding
     requires { ⌜ Valid s ⌝ }
-    ensures { λ r. ⌜ r ≡ sceneAfter (codeCheck s (n .0)) (record { 0 = decoded s (n .0) }) ⌝ }
+    ensures { λ r. ⌜ decodingResult r ≡ single (codeCheck s (n .0)) (decoded s (n .0) ∷ []) ⌝ }
 {
     match setting::check_code(s, n) {
         Check::Refused(r) => Decoding::Refused(r),
@@ -34,9 +38,11 @@ fn decode_valid(s: Setting, n: Code) -> Decoding
     }
 }
 
-// The scene number of a code, or the refusal of the first check that fails: 3, 4, 5, then 6.
+// The scene number of a code, or the refusal of the first check that fails: 3, 4, 5, then 6. The number is a decoded number in the rules'
+// sense.
 pub fn decode(s: Setting, n: Code) -> Decoding
-    ensures { λ r. ⌜ r ≡ decodeAnswer s (n .0) ⌝ }
+    ensures { λ r. ⌜ decodingResult r ≡ decodeResult s (n .0) ⌝ }
+    ensures { λ r. ⌜ Each (Decodes (scaleOf s) (n .0)) (decodingResult r .values) ⌝ }
 {
     match setting::check_setting(s) {
         Check::Refused(r) => Decoding::Refused(r),

@@ -6,3 +6,4 @@ mod ThirdTests
 mod Settings
 mod Thirds
 pub mod Theorems
+pub mod Answers

@@ -1,20 +1,28 @@
--- What encoding one scene number answers.
+-- What encoding one scene number gives.
 -- Assumes nothing.
+use mathlib.Core.List.{[], _∷_}
+use Prim.Native.Nat.{ℕ}
 use lib.IntN.{ℤ}
-use Rattle.rules.specs.declared.Check.{Check}
-use Rattle.rules.specs.declared.Check.the-variants.{Passed, Refused}
-use Rattle.rules.specs.declared.Code.{Code}
 use Rattle.rules.specs.declared.Setting.{Setting}
-use Rattle.rules.specs.Refusal.{then}
-use Rattle.rules.specs.Setting.{settingCheck}
-use Rattle.rules.specs.Encoding.{sceneCheck}
+use Rattle.rules.specs.Refusal.{then, numberOf}
+use Rattle.rules.specs.Result.{Result, done, refusedBy, single}
+use Rattle.rules.specs.Exact.{scaleOf}
+use Rattle.rules.specs.Setting.{settingCheck, topOf}
+use Rattle.rules.specs.Encoding.{IsNearest, TwoThirds, sceneCheck}
+use Rattle.curve.specs.Decoded.{decoded}
 use Rattle.encode.specs.declared.Encoding.{Encoding}
 use Rattle.encode.specs.Encoded.{encoded}
 
-abbrev pub codeAfter : Check → Code → Encoding
-codeAfter Passed n = Encoding.Code n
-codeAfter (Refused r) n = Encoding.Refused r
+-- the number and the values of each case of the answer
+abbrev pub encodingResult : Encoding → Result ℕ
+encodingResult (Encoding.Code n) = done (n .0 ∷ [])
+encodingResult (Encoding.Refused why) = refusedBy (numberOf why) 0
 
--- "Within a record: setting, then .. (each channel's checks ..)": the first check that fails refuses
-unfoldable pub encodeAnswer : Setting → ℤ → Encoding
-encodeAnswer s x = codeAfter (then (settingCheck s) (sceneCheck x)) (record { 0 = encoded s x })
+-- the code, or the refusal of the first check that fails: 3, 4, 5, then 7
+unfoldable pub encodeResult : Setting → ℤ → Result ℕ
+encodeResult s x = single (then (settingCheck s) (sceneCheck x)) (encoded s x ∷ [])
+
+-- what 01 asks of the code of a scene number: it is the nearest, and within two thirds of a code of the exact curve
+pub record Encodes (s : Setting) (x : ℤ) (n : ℕ) : Type 0 where
+  pub nearest : IsNearest (decoded s) (topOf (s .width)) x n
+  pub two-thirds : TwoThirds (scaleOf s) (topOf (s .width)) x n

@@ -1,11 +1,13 @@
 // Encoding: the code of a scene number.
+ghost use mathlib.Core.List.{[], _∷_};
 ghost use mathlib.Core.Path.{_≡_};
 ghost use Rattle.rules.specs.declared.Check.the-variants.{Passed};
+ghost use Rattle.rules.specs.Result.{Each, single};
 ghost use Rattle.rules.specs.Setting.{Valid};
 ghost use Rattle.rules.specs.Encoding.{sceneCheck};
 ghost use Rattle.curve.specs.Ready.{Ready};
 ghost use Rattle.encode.specs.Encoded.{encoded};
-ghost use Rattle.encode.specs.Answer.{codeAfter, encodeAnswer};
+ghost use Rattle.encode.specs.Answer.{encodingResult, encodeResult, Encodes};
 use curve::decoder::Decoder;
 use rules::Check;
 use rules::Code;
@@ -53,7 +55,7 @@ pub fn code_of(s: Setting, d: Decoder, t: &[u64; 128], x: Scene) -> Code
 
 fn encode_valid(s: Setting, x: Scene) -> Encoding
     requires { ⌜ Valid s ⌝ }
-    ensures { λ r. ⌜ r ≡ codeAfter (sceneCheck (x .0)) (record { 0 = encoded s (x .0) }) ⌝ }
+    ensures { λ r. ⌜ encodingResult r ≡ single (sceneCheck (x .0)) (encoded s (x .0) ∷ []) ⌝ }
 {
     match check_scene(x) {
         Check::Refused(r) => Encoding::Refused(r),
@@ -65,9 +67,11 @@ fn encode_valid(s: Setting, x: Scene) -> Encoding
     }
 }
 
-// The code of a scene number, or the refusal of the first check that fails: 3, 4, 5, then 7.
+// The code of a scene number, or the refusal of the first check that fails: 3, 4, 5, then 7. The code is the nearest, and within two thirds
+// of a code of the exact curve.
 pub fn encode(s: Setting, x: Scene) -> Encoding
-    ensures { λ r. ⌜ r ≡ encodeAnswer s (x .0) ⌝ }
+    ensures { λ r. ⌜ encodingResult r ≡ encodeResult s (x .0) ⌝ }
+    ensures { λ r. ⌜ Each (Encodes s (x .0)) (encodingResult r .values) ⌝ }
 {
     match setting::check_setting(s) {
         Check::Refused(r) => Encoding::Refused(r),

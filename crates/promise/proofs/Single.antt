@@ -16,8 +16,10 @@ use Rattle.rules.specs.declared.Found.{Found}
 use Rattle.rules.specs.declared.Found as found
 use Rattle.rules.specs.declared.Pixel.{Pixel}
 use Rattle.rules.specs.declared.Refusal.{Refusal}
+use Rattle.rules.specs.declared.Refusal.the-variants.{NoPixel}
 use Rattle.rules.specs.declared.Setting.{Setting}
 use Rattle.rules.specs.declared.Triple.{Triple}
+use Rattle.rules.specs.Refusal.{then, numberOf, numberOfCheck}
 use Rattle.rules.specs.Setting.{settingCheck, codeCheck, Valid}
 use Rattle.rules.specs.Matrix.{matrixOf, IsAces}
 use Rattle.rules.specs.Record.{IsBytes, toBits, ofBits, numberBytes, codeBytes, settingOf, Channels, channelAt, channelsOf, recordOf}
@@ -35,7 +37,7 @@ use Rattle.rules.specs.Contents.{pixelIn, pixelRecord, tripleIn, acesRecord}
 use Rattle.conversion.specs.Conversions.{channelChecks, pixelFound, pixelToAces, acesToPixel}
 use Rattle.conversion.proofs.Channels.{codes-pixel}
 use Rattle.conversion.proofs.Good.{Good}
-use Rattle.promise.specs.Words.{given, HoldsPixel, Without, OnlyPixel}
+use Rattle.promise.specs.Words.{given, HoldsPixel, Without, OnlyPixel, refusalOf}
 
 -- ---- numbers in eight bytes
 below : (x : ℤ) → natAbs x ≤ 2 ^ 38 → (2 * up x < 256 ^ 8) × (2 * dn x ≤ 256 ^ 8)
@@ -151,6 +153,21 @@ module _ (r : List ℕ) (h : IsBytes r) (l : length r ≡ 28) where
       go : (x : Check) → settingCheck s ≡ x → Without r
       go (Refused w) f = Without.no-setting (λ v. refused-never (sym f ∙ v))
       go Passed f = Without.no-pixel (λ p i g. refused-never (sym e ∙ given-passes f p i g))
+
+-- the number of what is refused
+pub refusal-number : (r : List ℕ) (why : Refusal) → recordCheck acesToPixel r ≡ Refused why → numberOf why ≡ refusalOf (settingOf r)
+refusal-number r why e = go (settingCheck (settingOf r)) refl (foundCheck (pixelFor (settingOf r) (tripleIn r))) refl e
+  where
+    numbers : (x y : Check) → x ≡ y → numberOfCheck x ≡ numberOfCheck y
+    numbers x y e = ap numberOfCheck e
+
+    go : (x : Check) → settingCheck (settingOf r) ≡ x → (y : Check) → foundCheck (pixelFor (settingOf r) (tripleIn r)) ≡ y → then x y ≡ Refused why → numberOf why ≡ numberOfCheck (then (settingCheck (settingOf r)) (Refused NoPixel))
+    go (Refused w) f y g e = rw f (numbers (Refused why) (Refused w) (sym e))
+    go Passed f y g e = rw f (numbers (Refused why) (Refused NoPixel) (sym (g ∙ e) ∙ only-cause (pixelFor (settingOf r) (tripleIn r)) (g ∙ e)))
+      where
+        only-cause : (p : Found) → foundCheck p ≡ Refused why → foundCheck p ≡ Refused NoPixel
+        only-cause (found.Found.Pixel p) h = refused-never (sym h)
+        only-cause found.Found.Nothing h = refl
 
 -- ---- pixel to ACES and back
 module _ (r : List ℕ) (g : Good pixelToAces r) where

@@ -14,14 +14,22 @@ use Rattle.rules.specs.declared.Answer.{Answer}
 use Rattle.rules.specs.declared.Answer.the-variants.{Done, Refused}
 use Rattle.rules.specs.declared.Check.{Check}
 use Rattle.rules.specs.declared.Check as check
+use Rattle.rules.specs.declared.Found.{Found}
+use Rattle.rules.specs.declared.Found as found
+use Rattle.rules.specs.declared.Refusal.the-variants.{NoPixel}
 use Rattle.rules.specs.declared.Setting.{Setting}
 use Rattle.rules.specs.declared.Triple.{Triple}
+use Rattle.rules.specs.Refusal.{then, numberOfCheck}
+use Rattle.rules.specs.Result.{Result, done, refusedBy, single, stripResult}
+use Rattle.rules.specs.Setting.{settingCheck}
+use Rattle.rules.specs.WayBack.{codesFound, foundCheck}
 use Rattle.rules.specs.Exact.{scaleOf}
 use Rattle.rules.specs.ExactRow.{TwoUnits}
 use Rattle.rules.specs.Matrix.{matrixOf, acesNumber}
 use Rattle.rules.specs.Record.{IsBytes, settingOf}
-use Rattle.rules.specs.Strip.{recordCheck, records, recordAt, written, scanOf, answerOf, outputAfter}
-use Rattle.rules.proofs.Settings.{code-passed}
+use Rattle.rules.specs.Strip.{Conversion, recordCheck, records, recordAt, written, scanOf, answerOf, outputAfter, resultOf, stripAfter}
+use Rattle.rules.proofs.Results.{number-positive, done-answer, refused-answer}
+use Rattle.rules.proofs.Settings.{code-passed, refused-never}
 use Rattle.rules.proofs.Records.{length-record}
 use Rattle.curve.specs.Decoded.{decoded}
 use Rattle.matrix.proofs.Theorems.{aces-two-units}
@@ -32,21 +40,27 @@ use Rattle.passes.proofs.FirstPass.{scan-passes, counted}
 use Rattle.strip.proofs.First.{FirstRefused, all-done, first-answered, answered-first}
 use Rattle.strip.proofs.Join.{whole-answer}
 use Rattle.strip.proofs.Back as back
-use Rattle.promise.specs.Words.{Accepted, HoldsPixel, made, numberIn, NearExact, Without, OnlyPixel, RefusedAt, FirstWithout}
-use Rattle.promise.proofs.Single.{same-triple, back-passes, back-same, passed-only, not-both, refused-without}
+use Rattle.wayback.specs.Back.{pixelFor, wayBackResult}
+use Rattle.wayback.proofs.Theorems.{found-gives, one-pixel, nothing-gives}
+use Rattle.promise.specs.Words.{Accepted, HoldsPixel, made, numberIn, NearExact, Without, OnlyPixel, SomeWithout, FirstWithout, refusalOf, refusedAt, ReportsFirst, WithoutPixel, IsOnlyPixel, GivesOnly}
+use Rattle.promise.proofs.Single.{same-triple, back-passes, back-same, passed-only, not-both, refused-without, refusal-number}
 use Rattle.promise.proofs.Strips.{written-at, length-at, bytes-at, aces-long, accepted-good, accepted-whole, made-records, made-long, made-at}
 
 taken-back : (r : List ℕ) → Good pixelToAces r → (recordCheck acesToPixel (pixelToAces .bytes r) ≡ check.Check.Passed) × (acesToPixel .bytes (pixelToAces .bytes r) ≡ r)
 taken-back r g = (back-passes r g, back-same r g)
 
+-- a call that converts n records
+called : (c : Conversion) (input output : List ℕ) (n : ℕ) (after : List ℕ) → Done n ≡ answerOf c input output → outputAfter c input output (Done n) ≡ after
+    → (resultOf c input output ≡ done (n ∷ [])) × (stripAfter c input output ≡ after)
+called c input output n after e w = (ap stripResult (sym e), ap (outputAfter c input output) (sym e) ∙ w)
+
 -- what pixel to ACES writes for an accepted strip, into an output long enough, is the ACES strip made from it; the bytes beyond are as they were
 pub made-is-written : (pixels output : List ℕ) (n : ℕ) → Accepted pixels n → n * 28 ≤ length output
-    → (Done n ≡ answerOf pixelToAces pixels output) × (outputAfter pixelToAces pixels output (Done n) ≡ made pixels ++ drop (n * 28) output)
+    → (resultOf pixelToAces pixels output ≡ done (n ∷ [])) × (stripAfter pixelToAces pixels output ≡ made pixels ++ drop (n * 28) output)
 unfolding outputAfter
-made-is-written pixels output n a room = (
-  back.whole-done pixelToAces pixels output n (lit< tt) (accepted-whole pixels n a output room),
-  ap (λ (l : List ℕ). l ++ drop (n * 28) output) (sym (made-records pixels n a)),
-)
+made-is-written pixels output n a room =
+    called pixelToAces pixels output n (made pixels ++ drop (n * 28) output) (back.whole-done pixelToAces pixels output n (lit< tt) (accepted-whole pixels n a output room))
+    (ap (λ (l : List ℕ). l ++ drop (n * 28) output) (sym (made-records pixels n a)))
 
 -- 1. "Equal pixel strips exactly when equal ACES strips"
 pub equal-strips : (pixels others : List ℕ) (n m : ℕ) → Accepted pixels n → Accepted others m → (pixels ≡ others) ↔ (made pixels ≡ made others)
@@ -87,14 +101,21 @@ strip-two-units pixels n a k h i l =
 -- 3. "the way back returns the same bytes": given an output long enough it turns the ACES strip into the pixel strip, and reports its number
 -- of records
 pub way-back-returns : (pixels output : List ℕ) (n : ℕ) → Accepted pixels n → length pixels ≤ length output
-    → (Done n ≡ answerOf acesToPixel (made pixels) output) × (outputAfter acesToPixel (made pixels) output (Done n) ≡ pixels ++ drop (length pixels) output)
+    → (resultOf acesToPixel (made pixels) output ≡ done (n ∷ [])) × (stripAfter acesToPixel (made pixels) output ≡ pixels ++ drop (length pixels) output)
 way-back-returns pixels output n a room =
     let w = accepted-whole pixels n a (made pixels) (le-of-eq (sym (made-long pixels n a))) in
-    rw (made-records pixels n a) (
-      back.whole-done acesToPixel (written (pixelToAces .bytes) (records 10 n pixels)) output n (lit< tt)
-          (back.back-whole pixelToAces aces-long (acesToPixel .inner) (acesToPixel .bytes) taken-back pixels (made pixels) n (a .bytes) w output room),
-      back.back-written pixelToAces aces-long (acesToPixel .inner) (acesToPixel .bytes) taken-back pixels (made pixels) n (a .bytes) w output,
-    )
+    rw (made-records pixels n a)
+    (called acesToPixel (written (pixelToAces .bytes) (records 10 n pixels)) output n (pixels ++ drop (length pixels) output)
+    (back.whole-done acesToPixel (written (pixelToAces .bytes) (records 10 n pixels)) output n (lit< tt)
+    (back.back-whole pixelToAces aces-long (acesToPixel .inner) (acesToPixel .bytes) taken-back pixels (made pixels) n (a .bytes) w output room))
+    (back.back-written pixelToAces aces-long (acesToPixel .inner) (acesToPixel .bytes) taken-back pixels (made pixels) n (a .bytes) w output))
+
+refusal-positive : (s : Setting) → 0 < refusalOf s
+refusal-positive s = go (settingCheck s)
+  where
+    go : (x : Check) → 0 < numberOfCheck (then x (check.Check.Refused NoPixel))
+    go check.Check.Passed = number-positive NoPixel
+    go (check.Check.Refused why) = number-positive why
 
 -- ---- any strip of n ACES records, with an output long enough
 module _ (aces output : List ℕ) (n : ℕ) (h : IsBytes aces) (l : length aces ≡ n * 28) (room : n * 10 ≤ length output) where
@@ -104,6 +125,9 @@ module _ (aces output : List ℕ) (n : ℕ) (h : IsBytes aces) (l : length aces 
   scanned : answerOf acesToPixel aces output ≡ scanOf acesToPixel n aces
   scanned = whole-answer acesToPixel aces output n (lit< tt) l room
 
+  converted-passes : resultOf acesToPixel aces output ≡ done (n ∷ []) → (k : ℕ) → k < n → recordCheck acesToPixel (recordAt 28 k aces) ≡ check.Check.Passed
+  converted-passes e k i = scan-passes (recordCheck acesToPixel) 28 n aces 0 n (done-answer (answerOf acesToPixel aces output) n e ∙ scanned) k i
+
   -- a record that is not without a pixel passes
   with-pixel : (k : ℕ) → k < n → (Without (recordAt 28 k aces) → ⊥) → recordCheck acesToPixel (recordAt 28 k aces) ≡ check.Check.Passed
   with-pixel k i never = go (recordCheck acesToPixel (recordAt 28 k aces)) refl
@@ -112,12 +136,14 @@ module _ (aces output : List ℕ) (n : ℕ) (h : IsBytes aces) (l : length aces 
       go check.Check.Passed e = refl
       go (check.Check.Refused why) e = absurd (never (refused-without (recordAt 28 k aces) (bytes-at 28 k aces h) (whole-at k i) why e))
 
-  -- 4. "and refuses exactly when no pixel of the setting gives the record, naming the first such record"
-  pub refuses-first : (k : ℕ) → RefusedAt k (answerOf acesToPixel aces output) ↔ FirstWithout aces n k
+  -- 4. "it refuses exactly when some record has no valid setting or no pixel of its setting gives it, and it reports the first such record":
+  -- the number and the index that are reported
+  pub refuses-first : (k : ℕ) → (resultOf acesToPixel aces output ≡ refusedAt aces k) ↔ FirstWithout aces n k
   refuses-first k = (forth, back-again)
     where
-      forth : RefusedAt k (answerOf acesToPixel aces output) → FirstWithout aces n k
-      forth r =
+      forth : resultOf acesToPixel aces output ≡ refusedAt aces k → FirstWithout aces n k
+      forth e =
+          let r = refused-answer (answerOf acesToPixel aces output) _ k e in
           let f = answered-first (recordCheck acesToPixel) 28 n aces k (r .why) (sym scanned ∙ r .is) in
           record {
             in-range = f .in-range;
@@ -125,31 +151,84 @@ module _ (aces output : List ℕ) (n : ℕ) (h : IsBytes aces) (l : length aces 
             before = λ j i w. not-both (recordAt 28 j aces) (bytes-at 28 j aces h) (whole-at j (omega (arith, f .in-range))) w (f .before j i);
           }
 
-      back-again : FirstWithout aces n k → RefusedAt k (answerOf acesToPixel aces output)
+      back-again : FirstWithout aces n k → resultOf acesToPixel aces output ≡ refusedAt aces k
       back-again f = go (recordCheck acesToPixel (recordAt 28 k aces)) refl
         where
-          go : (x : Check) → recordCheck acesToPixel (recordAt 28 k aces) ≡ x → RefusedAt k (answerOf acesToPixel aces output)
+          go : (x : Check) → recordCheck acesToPixel (recordAt 28 k aces) ≡ x → resultOf acesToPixel aces output ≡ refusedAt aces k
           go check.Check.Passed e = absurd (not-both (recordAt 28 k aces) (bytes-at 28 k aces h) (whole-at k (f .in-range)) (f .without) e)
           go (check.Check.Refused why) e =
-              record {
-                why = why;
-                is =
-                    scanned
-                    ∙ first-answered (recordCheck acesToPixel) 28 n aces 0 k why
-                    (record { in-range = f .in-range; refused = e; before = λ j i. with-pixel j (omega (arith, f .in-range)) (f .before j i) })
-                    ∙ ap (Refused why) (zero-add k);
-              }
+              ap stripResult
+              (scanned
+              ∙ first-answered (recordCheck acesToPixel) 28 n aces 0 k why
+              (record { in-range = f .in-range; refused = e; before = λ j i. with-pixel j (omega (arith, f .in-range)) (f .before j i) })
+              ∙ ap (Refused why) (zero-add k))
+              ∙ ap (λ (m : ℕ). refusedBy m k) (refusal-number (recordAt 28 k aces) why e)
 
   -- it converts exactly when every record is given by a pixel
-  pub converts-exactly : (Done n ≡ answerOf acesToPixel aces output) ↔ ((k : ℕ) → k < n → Without (recordAt 28 k aces) → ⊥)
+  pub converts-exactly : (resultOf acesToPixel aces output ≡ done (n ∷ [])) ↔ ((k : ℕ) → k < n → Without (recordAt 28 k aces) → ⊥)
   converts-exactly = (
-    λ e k i w. not-both (recordAt 28 k aces) (bytes-at 28 k aces h) (whole-at k i) w (scan-passes (recordCheck acesToPixel) 28 n aces 0 n (e ∙ scanned) k i),
-    λ never. sym (scanned ∙ all-done (recordCheck acesToPixel) 28 n aces 0 (λ k i. with-pixel k i (never k i)) ∙ ap Done (zero-add n)),
+    λ e k i w. not-both (recordAt 28 k aces) (bytes-at 28 k aces h) (whole-at k i) w (converted-passes e k i),
+    λ never. ap stripResult (scanned ∙ all-done (recordCheck acesToPixel) 28 n aces 0 (λ k i. with-pixel k i (never k i)) ∙ ap Done (zero-add n)),
   )
 
+  -- some record is without a pixel: then it refuses, and reports the first
+  pub reports-first : SomeWithout aces n → ReportsFirst aces n (resultOf acesToPixel aces output)
+  reports-first w = go (answerOf acesToPixel aces output) refl
+    where
+      go : (a : Answer) → answerOf acesToPixel aces output ≡ a → ReportsFirst aces n (resultOf acesToPixel aces output)
+      go (Done m) e =
+          absurd
+          (not-both (recordAt 28 (w .at) aces) (bytes-at 28 (w .at) aces h) (whole-at (w .at) (w .in-range)) (w .without)
+          (scan-passes (recordCheck acesToPixel) 28 n aces 0 m (sym e ∙ scanned) (w .at) (w .in-range)))
+      go (Refused why k) e =
+          let f = answered-first (recordCheck acesToPixel) 28 n aces k why (sym scanned ∙ e) in
+          let r : resultOf acesToPixel aces output ≡ refusedAt aces k = ap stripResult e ∙ ap (λ (m : ℕ). refusedBy m k) (refusal-number (recordAt 28 k aces) why (f .refused)) in
+          record { at = k; reported = r; first = refuses-first k .0 r }
+
+  -- THE SENTENCE, of the whole strip: it refuses exactly when some record is without a pixel
+  pub refuses-exactly : (0 < resultOf acesToPixel aces output .number) ↔ SomeWithout aces n
+  refuses-exactly = (go (answerOf acesToPixel aces output) refl, λ w. let r = reports-first w in subst (λ (x : Result ℕ). 0 < x .number) (sym (r .reported)) (refusal-positive (settingOf (recordAt 28 (r .at) aces))))
+    where
+      go : (a : Answer) → answerOf acesToPixel aces output ≡ a → 0 < stripResult a .number → SomeWithout aces n
+      go (Done m) e p = absurd (omega arith)
+      go (Refused why k) e p =
+          let f = answered-first (recordCheck acesToPixel) 28 n aces k why (sym scanned ∙ e) in
+          record { at = k; in-range = f .in-range; without = refused-without (recordAt 28 k aces) (bytes-at 28 k aces h) (whole-at k (f .in-range)) why (f .refused) }
+
   -- 5. where it does not refuse, "each record comes back as the only pixel of its setting that gives it"
-  pub comes-back : Done n ≡ answerOf acesToPixel aces output → (k : ℕ) → k < n → OnlyPixel (recordAt 28 k aces) (recordAt 10 k (outputAfter acesToPixel aces output (Done n)))
+  pub comes-back : resultOf acesToPixel aces output ≡ done (n ∷ []) → (k : ℕ) → k < n → OnlyPixel (recordAt 28 k aces) (recordAt 10 k (stripAfter acesToPixel aces output))
   unfolding outputAfter
   comes-back e k i =
-      subst (OnlyPixel (recordAt 28 k aces)) (sym (written-at (acesToPixel .bytes) 10 (λ r. length-record 2 (settingOf r) _) 28 n aces (drop (n * 10) output) k i))
-      (passed-only (recordAt 28 k aces) (bytes-at 28 k aces h) (whole-at k i) (scan-passes (recordCheck acesToPixel) 28 n aces 0 n (e ∙ scanned) k i))
+      subst (OnlyPixel (recordAt 28 k aces))
+      (sym (ap (λ (a : Answer). recordAt 10 k (outputAfter acesToPixel aces output a)) (sym (done-answer (answerOf acesToPixel aces output) n e)) ∙ written-at (acesToPixel .bytes) 10 (λ r. length-record 2 (settingOf r) _) 28 n aces (drop (n * 10) output) k i))
+      (passed-only (recordAt 28 k aces) (bytes-at 28 k aces h) (whole-at k i) (converted-passes e k i))
+
+-- ---- any one ACES record: any setting bytes, any three numbers
+module _ (s : Setting) (a : Triple) where
+  -- 4 and 5 of one record: what the way back gives is a refusal of a record without a pixel, or the only pixel that gives it
+  pub one-record : GivesOnly s a (wayBackResult s a)
+  unfolding wayBackResult
+  one-record = go (settingCheck s) refl (pixelFor s a) refl
+    where
+      refused : (x : Check) → settingCheck s ≡ x → WithoutPixel s a → GivesOnly s a (refusedBy (numberOfCheck (then x (check.Check.Refused NoPixel))) 0)
+      refused x e w = subst (λ (y : Check). GivesOnly s a (refusedBy (numberOfCheck (then y (check.Check.Refused NoPixel))) 0)) e (GivesOnly.refuses w)
+
+      go : (x : Check) → settingCheck s ≡ x → (f : Found) → pixelFor s a ≡ f → GivesOnly s a (single (then (settingCheck s) (foundCheck (pixelFor s a))) (codesFound (pixelFor s a)))
+      go (check.Check.Refused why) e f g = rw e (refused (check.Check.Refused why) e (WithoutPixel.no-setting (λ v. refused-never (sym e ∙ v))))
+      go check.Check.Passed e (found.Found.Pixel p) g =
+          let r = found-gives s a p g in
+          rw (e, g) (GivesOnly.returns p (record { valid = e; is-pixel = r .0; gives = r .1; only = λ q i m. one-pixel s e q p i (r .0) (m ∙ sym (r .1)) }))
+      go check.Check.Passed e found.Found.Nothing g = rw (e, g) (refused check.Check.Passed e (WithoutPixel.no-pixel (nothing-gives s e a g)))
+
+  -- so it refuses exactly when the setting is not valid or no pixel of it gives the numbers
+  pub one-refuses : (0 < wayBackResult s a .number) ↔ WithoutPixel s a
+  one-refuses = (forth (wayBackResult s a) one-record, back-again (wayBackResult s a) one-record)
+    where
+      forth : (r : Result ℕ) → GivesOnly s a r → 0 < r .number → WithoutPixel s a
+      forth _ (GivesOnly.refuses w) p = w
+      forth _ (GivesOnly.returns q o) p = absurd (omega arith)
+
+      back-again : (r : Result ℕ) → GivesOnly s a r → WithoutPixel s a → 0 < r .number
+      back-again _ (GivesOnly.refuses w) n = refusal-positive s
+      back-again _ (GivesOnly.returns q o) (WithoutPixel.no-setting n) = absurd (n (o .valid))
+      back-again _ (GivesOnly.returns q o) (WithoutPixel.no-pixel n) = absurd (n q (o .is-pixel) (o .gives))

@@ -5,18 +5,20 @@ use mathlib.Core.Path.{_≡_}
 use Prim.Native.Nat.{ℕ, _*_, _/_, _<_}
 use lib.IntN.{ℤ}
 use lib.ListN.{length}
-use Rattle.rules.specs.declared.Answer.{Answer}
-use Rattle.rules.specs.declared.Answer.the-variants.{Refused}
+use Rattle.rules.specs.declared.Check.the-variants.{Refused}
 use Rattle.rules.specs.declared.Pixel.{Pixel}
-use Rattle.rules.specs.declared.Refusal.{Refusal}
+use Rattle.rules.specs.declared.Refusal.the-variants.{NoPixel}
 use Rattle.rules.specs.declared.Setting.{Setting}
-use Rattle.rules.specs.Setting.{Valid}
+use Rattle.rules.specs.declared.Triple.{Triple}
+use Rattle.rules.specs.Refusal.{then, numberOfCheck}
+use Rattle.rules.specs.Result.{Result, done, refusedBy}
+use Rattle.rules.specs.Setting.{settingCheck, Valid}
 use Rattle.rules.specs.Exact.{scaleOf}
 use Rattle.rules.specs.ExactRow.{TwoUnits}
 use Rattle.rules.specs.Matrix.{matrixOf}
 use Rattle.rules.specs.Record.{IsBytes, numberBytes, ofBits, settingOf, channelAt}
 use Rattle.rules.specs.Strip.{records, recordAt, written}
-use Rattle.rules.specs.WayBack.{IsPixel, acesOf}
+use Rattle.rules.specs.WayBack.{IsPixel, codes, acesOf}
 use Rattle.curve.specs.Decoded.{decoded}
 use Rattle.wayback.specs.Back.{pixelAces}
 use Rattle.rules.specs.Contents.{pixelIn, pixelRecord, acesRecord}
@@ -68,13 +70,46 @@ pub record OnlyPixel (r out : List ℕ) : Type 0 where
   pub only : (q : Pixel) → IsPixel (settingOf r) q → given (settingOf r) q ≡ r → q ≡ pixel
   pub holds : out ≡ pixelRecord (settingOf r) pixel
 
--- "refuses .. and reports the first such record": the answer is a refusal at the k-th record
-pub record RefusedAt (k : ℕ) (answer : Answer) : Type 0 where
-  pub why : Refusal
-  pub is : answer ≡ Refused why k
+-- the number by which the way back refuses under a setting: that of the setting's first check that fails, else 10
+abbrev pub refusalOf : Setting → ℕ
+refusalOf s = numberOfCheck (then (settingCheck s) (Refused NoPixel))
 
--- the k-th of n records is the first without a pixel
+-- some of n records has "no valid setting or no pixel of its setting gives it"
+pub record SomeWithout (aces : List ℕ) (n : ℕ) : Type 0 where
+  pub at : ℕ
+  pub in-range : at < n
+  pub without : Without (recordAt 28 at aces)
+
+-- the k-th of n records is the first such
 pub record FirstWithout (aces : List ℕ) (n k : ℕ) : Type 0 where
   pub in-range : k < n
   pub without : Without (recordAt 28 k aces)
   pub before : (j : ℕ) → j < k → Without (recordAt 28 j aces) → ⊥
+
+-- a call that refuses, "and it reports the first such record": its number and its index
+abbrev pub refusedAt : (aces : List ℕ) (k : ℕ) → Result ℕ
+refusedAt aces k = refusedBy (refusalOf (settingOf (recordAt 28 k aces))) k
+
+pub record ReportsFirst (aces : List ℕ) (n : ℕ) (result : Result ℕ) : Type 0 where
+  pub at : ℕ
+  pub reported : result ≡ refusedAt aces at
+  pub first : FirstWithout aces n at
+
+-- ---- "any one ACES record .. whatever the settings and numbers": any setting bytes s and any three numbers a
+
+-- "no valid setting or no pixel of its setting gives it"
+pub data WithoutPixel (s : Setting) (a : Triple) : Type 0 where
+  no-setting : (Valid s → ⊥) → WithoutPixel s a
+  no-pixel : ((p : Pixel) → IsPixel s p → pixelAces s p ≡ a → ⊥) → WithoutPixel s a
+
+-- "the only pixel of its setting that gives it"
+pub record IsOnlyPixel (s : Setting) (a : Triple) (p : Pixel) : Type 0 where
+  pub valid : Valid s
+  pub is-pixel : IsPixel s p
+  pub gives : pixelAces s p ≡ a
+  pub only : (q : Pixel) → IsPixel s q → pixelAces s q ≡ a → q ≡ p
+
+-- what the way back over one record gives: a refusal, or the codes of the only pixel
+pub data GivesOnly (s : Setting) (a : Triple) : Result ℕ → Type 0 where
+  refuses : WithoutPixel s a → GivesOnly s a (refusedBy (refusalOf s) 0)
+  returns : (p : Pixel) → IsOnlyPixel s a p → GivesOnly s a (done (codes p))

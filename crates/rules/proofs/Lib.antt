@@ -4,4 +4,5 @@ pub mod Settings
 pub mod Records
 pub mod Closest
 pub mod Search
+pub mod Results
 pub mod Between

@@ -1,6 +1,7 @@
 pub mod Choice
 pub mod Fraction
 pub mod Refusal
+pub mod Result
 pub mod Curve
 pub mod Setting
 pub mod Exact

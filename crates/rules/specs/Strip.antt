@@ -15,6 +15,7 @@ use Rattle.rules.specs.declared.Refusal.{Refusal}
 use Rattle.rules.specs.declared.Refusal.the-variants.{PartialRecord, ShortOutput}
 use Rattle.rules.specs.Choice.{choose}
 use Rattle.rules.specs.Refusal.{then}
+use Rattle.rules.specs.Result.{Result, stripResult}
 use Rattle.rules.specs.Setting.{settingCheck}
 use Rattle.rules.specs.Record.{settingOf}
 
@@ -69,6 +70,13 @@ answerOf c input output =
 unfoldable pub outputAfter : Conversion → (input output : List ℕ) → Answer → List ℕ
 outputAfter c input output (Done n) = written (c .bytes) (records (c .from) n input) ++ drop (n * c .to) output
 outputAfter c input output (Refused why k) = output
+
+-- what the call gives, and the output strip after it
+abbrev pub resultOf : Conversion → (input output : List ℕ) → Result ℕ
+resultOf c input output = stripResult (answerOf c input output)
+
+abbrev pub stripAfter : Conversion → (input output : List ℕ) → List ℕ
+stripAfter c input output = outputAfter c input output (answerOf c input output)
 
 -- the contract of a conversion of strips
 pub record Converts (c : Conversion) (input output : List ℕ) (answer : Answer) (after : List ℕ) : Type 0 where

@@ -2,6 +2,7 @@
 -- decoded number of each code, the matrix, and the top code.
 -- Assumes nothing.
 use mathlib.Core.Bool.{Bool, false}
+use mathlib.Core.List.{List, [], _∷_}
 use mathlib.Core.Path.{_≡_}
 use Prim.Native.Nat.{ℕ, zero, suc}
 use lib.IntN.{ℤ}
@@ -27,6 +28,9 @@ pub record IsPixel (s : Setting) (p : Pixel) : Type 0 where
 -- three codes, three ACES numbers
 abbrev pub pixel : (r g b : ℕ) → Pixel
 pixel r g b = record { red = record { 0 = r }; green = record { 0 = g }; blue = record { 0 = b } }
+
+abbrev pub codes : Pixel → List ℕ
+codes p = p .red .0 ∷ p .green .0 ∷ p .blue .0 ∷ []
 
 abbrev pub triple : (x y z : ℤ) → Triple
 triple x y z = record { red = record { 0 = x }; green = record { 0 = y }; blue = record { 0 = z } }
@@ -62,6 +66,11 @@ tried number m a p = choose (equal3 a (acesOf number m p)) (found.Found.Pixel p)
 
 unfoldable pub pixelWith : (number : ℕ → ℤ) → Matrix → (top : ℕ) → Triple → Found
 pixelWith number m top a = firstFound (λ r. firstFound (λ g. firstFound (λ b. tried number m a (pixel r g b)) top) top) top
+
+-- the codes of what is found
+abbrev pub codesFound : Found → List ℕ
+codesFound (found.Found.Pixel p) = codes p
+codesFound found.Found.Nothing = []
 
 -- refusal 10: "no pixel of this setting has this triple"
 abbrev pub foundCheck : Found → Check

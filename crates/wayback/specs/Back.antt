@@ -1,16 +1,15 @@
--- The way back of a setting: the pixel that gives three ACES numbers, and what the way back over one record answers.
+-- The way back of a setting: the pixel that gives three ACES numbers, and what the way back over one record gives.
 -- Assumes nothing.
-use Rattle.rules.specs.declared.Check.{Check}
-use Rattle.rules.specs.declared.Check.the-variants.{Passed, Refused}
-use Rattle.rules.specs.declared.Refusal.the-variants.{NoPixel}
+use Prim.Native.Nat.{ℕ}
 use Rattle.rules.specs.declared.Setting.{Setting}
 use Rattle.rules.specs.declared.Pixel.{Pixel}
 use Rattle.rules.specs.declared.Triple.{Triple}
 use Rattle.rules.specs.declared.Found.{Found}
-use Rattle.rules.specs.declared.Found as found
+use Rattle.rules.specs.Refusal.{then, numberOf}
+use Rattle.rules.specs.Result.{Result, done, refusedBy, single}
 use Rattle.rules.specs.Setting.{topOf, settingCheck}
 use Rattle.rules.specs.Matrix.{matrixOf}
-use Rattle.rules.specs.WayBack.{acesOf, pixelWith}
+use Rattle.rules.specs.WayBack.{codes, acesOf, pixelWith, codesFound, foundCheck}
 use Rattle.curve.specs.Decoded.{decoded}
 use Rattle.wayback.specs.declared.Back.{Back}
 use Rattle.wayback.specs.declared.Back as back
@@ -23,11 +22,11 @@ pixelAces s p = acesOf (decoded s) (matrixOf s) p
 unfoldable pub pixelFor : Setting → Triple → Found
 pixelFor s a = pixelWith (decoded s) (matrixOf s) (topOf (s .width)) a
 
--- "Within a record: setting, .. then the record": refusals 3, 4, 5, then 10
-abbrev pub afterCheck : Check → Found → Back
-afterCheck Passed (found.Found.Pixel p) = back.Back.Pixel p
-afterCheck Passed found.Found.Nothing = back.Back.Refused NoPixel
-afterCheck (Refused why) f = back.Back.Refused why
+-- the number and the values of each case of the answer: the codes of the pixel
+abbrev pub backResult : Back → Result ℕ
+backResult (back.Back.Pixel p) = done (codes p)
+backResult (back.Back.Refused why) = refusedBy (numberOf why) 0
 
-unfoldable pub backAnswer : Setting → Triple → Back
-backAnswer s a = afterCheck (settingCheck s) (pixelFor s a)
+-- the codes of the pixel that gives the numbers, or the refusal of the first check that fails: 3, 4, 5, then 10
+unfoldable pub wayBackResult : Setting → Triple → Result ℕ
+wayBackResult s a = single (then (settingCheck s) (foundCheck (pixelFor s a))) (codesFound (pixelFor s a))

@@ -2,13 +2,14 @@
 ghost use mathlib.Core.Path.{_≡_};
 ghost use Rattle.rules.specs.declared.Check.the-variants.{Passed};
 ghost use Rattle.rules.specs.declared.Found as found;
+ghost use Rattle.rules.specs.Result.{single};
 ghost use Rattle.rules.specs.Setting.{Valid};
 ghost use Rattle.rules.specs.Matrix.{matrixOf};
-ghost use Rattle.rules.specs.WayBack.{IsPixel, equal, equal3, tried, foundCheck};
+ghost use Rattle.rules.specs.WayBack.{IsPixel, equal, equal3, tried, codesFound, foundCheck};
 ghost use Rattle.inverse.specs.Given.{Given};
 ghost use Rattle.curve.specs.Decoded.{decoded};
 ghost use Rattle.curve.specs.Ready.{Ready};
-ghost use Rattle.wayback.specs.Back.{pixelAces, pixelFor, backAnswer};
+ghost use Rattle.wayback.specs.Back.{pixelAces, pixelFor, backResult, wayBackResult};
 ghost use Rattle.wayback.specs.Candidate.{inReach, allInReach, candidatePixel};
 use curve::decoder::Decoder;
 use rules::Aces;
@@ -145,7 +146,7 @@ pub fn pixel_of(s: Setting, d: Decoder, t: &[u64; 128], a: Triple) -> Pixel
 
 fn way_back_valid(s: Setting, a: Triple) -> Back
     requires { ⌜ Valid s ⌝ }
-    ensures { λ r. ⌜ r ≡ backAnswer s a ⌝ }
+    ensures { λ r. ⌜ backResult r ≡ single (foundCheck (pixelFor s a)) (codesFound (pixelFor s a)) ⌝ }
 {
     let d = Decoder::new(s);
     let t = table::table(s);
@@ -157,7 +158,7 @@ fn way_back_valid(s: Setting, a: Triple) -> Back
 
 // The way back over one record: the only pixel that gives the numbers, or the refusal of the first check that fails: 3, 4, 5, then 10.
 pub fn way_back(s: Setting, a: Triple) -> Back
-    ensures { λ r. ⌜ r ≡ backAnswer s a ⌝ }
+    ensures { λ r. ⌜ backResult r ≡ wayBackResult s a ⌝ }
 {
     match setting::check_setting(s) {
         Check::Refused(r) => Back::Refused(r),

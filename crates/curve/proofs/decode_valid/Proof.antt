@@ -2,8 +2,9 @@
 -- Assumes nothing.
 use mathlib.Core.Path.{sym, ap, _∙_}
 use borrow.Author.Needs.{needs}
+use mathlib.Core.List.{[], _∷_}
 use lib.IntN.{ℤ}
-use Rattle.curve.specs.declared.Decoding.{Decoding}
+use Rattle.rules.specs.Result.{done}
 use Rattle.rules.proofs.Settings.{code-passed}
 use Rattle.curve.proofs.Fit.{fits}
 use Rattle.curve.proofs.decode_valid.Statement.{statement}
@@ -21,7 +22,7 @@ returns c = rw (sym (c .before .before .before .check-code .ensures) ∙ c .befo
 returns-2 : tie.Need-returns-2
 returns-2 c =
     rw (sym (c .before .before .before .before .before .before .before .check-code .ensures) ∙ c .before .before .before .before .before .enum-told .given .1)
-    (ap (λ (y : ℤ). Decoding.Scene (record { 0 = y }))
+    (ap (λ (y : ℤ). done (y ∷ []))
     (rw (c .before .before .before .before .new .ensures, c .before .before .before .table .ensures) at (c .scene .ensures)))
 
 pub decode-valid-spec : {M : Type 1} → statement M

@@ -3,7 +3,8 @@
 use mathlib.Core.Path.{sym, ap, _∙_}
 use Prim.Native.Nat.{ℕ}
 use borrow.Author.Needs.{needs}
-use Rattle.encode.specs.declared.Encoding.{Encoding}
+use mathlib.Core.List.{[], _∷_}
+use Rattle.rules.specs.Result.{done}
 use Rattle.encode.proofs.encode_valid.Statement.{statement}
 use Rattle.encode.proofs.encode_valid.Tie as tie
 
@@ -17,7 +18,7 @@ returns c = rw (sym (c .before .before .before .check-scene .ensures) ∙ c .bef
 returns-2 : tie.Need-returns-2
 returns-2 c =
     rw (sym (c .before .before .before .before .before .before .check-scene .ensures) ∙ c .before .before .before .before .enum-told .given .1)
-    (ap (λ (n : ℕ). Encoding.Code (record { 0 = n })) (c .code-of .ensures))
+    (ap (λ (n : ℕ). done (n ∷ [])) (c .code-of .ensures))
 
 pub encode-valid-spec : {M : Type 1} → statement M
 encode-valid-spec =

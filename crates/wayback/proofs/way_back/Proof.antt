@@ -2,7 +2,7 @@
 -- Assumes nothing.
 use mathlib.Core.Path.{sym, _∙_}
 use borrow.Author.Needs.{needs}
-use Rattle.wayback.specs.Back.{backAnswer}
+use Rattle.wayback.specs.Back.{wayBackResult}
 use Rattle.wayback.proofs.way_back.Statement.{statement}
 use Rattle.wayback.proofs.way_back.Tie as tie
 
@@ -10,10 +10,14 @@ way-back-valid-requires : tie.Need-way-back-valid-requires
 way-back-valid-requires c κs = sym (c .before .before .check-setting .ensures) ∙ c .enum-told .given .1
 
 returns : tie.Need-returns
-unfolding backAnswer
+unfolding wayBackResult
 returns c = rw (sym (c .before .before .before .check-setting .ensures) ∙ c .before .r .given .1)
+
+returns-2 : tie.Need-returns-2
+unfolding wayBackResult
+returns-2 c = rw (sym (c .before .before .before .check-setting .ensures) ∙ c .before .enum-told .given .1) (c .way-back-valid .ensures)
 
 pub way-back-spec : {M : Type 1} → statement M
 way-back-spec =
     tie.close
-    (tie.spec (λ c κs. search needs) (λ c. search needs) (λ c. search needs) way-back-valid-requires returns (λ c. search needs))
+    (tie.spec (λ c κs. search needs) (λ c. search needs) (λ c. search needs) way-back-valid-requires returns returns-2)
