@@ -1,6 +1,5 @@
 -- DECODED FLOAT PIXELS, for every setting and pixel.
 -- Assumes nothing.
-use mathlib.Core.List.{[], _∷_}
 use mathlib.Core.Path.{_≡_, refl}
 use Prim.Native.Nat.{ℕ}
 use Rattle.rules.specs.declared.Check.{Check}
@@ -8,13 +7,14 @@ use Rattle.rules.specs.declared.Check.the-variants.{Passed, Refused}
 use Rattle.rules.specs.declared.Pixel.{Pixel}
 use Rattle.rules.specs.declared.Setting.{Setting}
 use Rattle.rules.specs.Refusal.{then}
+use Rattle.rules.specs.Result.{done, single}
 use Rattle.rules.specs.Setting.{settingCheck, codeCheck, Valid}
 use Rattle.rules.specs.Float.{IsFloat, floatOf}
 use Rattle.rules.specs.WayBack.{IsPixel}
+use Rattle.rules.proofs.Settings.{both}
 use Rattle.curve.specs.Decoded.{decoded}
 use Rattle.units.proofs.Scaled.{float-exact}
-use Rattle.float.specs.declared.FloatDecoding.{FloatDecoding}
-use Rattle.float.specs.Answer.{codesCheck, floatPixel, floatsAfter, decodePixelAnswer, Exact, decodingGiven, givenAfter}
+use Rattle.float.specs.Answer.{codesCheck, floatPixel, floats, decodePixelResult, Exact}
 use Rattle.float.proofs.Channels.{is-pixel, decoded-small}
 
 -- "A scene number v is the float v / 16,777,216, exactly; zero gives plus zero": of every code of a valid setting
@@ -22,26 +22,18 @@ pub decoded-exact : (s : Setting) → Valid s → (n : ℕ) → codeCheck s n �
 decoded-exact s v n e = float-exact (decoded s n) (decoded-small s v n e)
 
 -- so of every answer
-pub answer-exact : (s : Setting) → Valid s → (p : Pixel) → Exact s p (floatsAfter (codesCheck s p) (floatPixel s p))
-answer-exact s v p = go (codesCheck s p) refl
+pub result-exact : (s : Setting) (p : Pixel) → Exact s p (decodePixelResult s p .values)
+unfolding decodePixelResult
+result-exact s p = go (then (settingCheck s) (codesCheck s p)) refl
   where
-    go : (c : Check) → codesCheck s p ≡ c → Exact s p (floatsAfter c (floatPixel s p))
+    go : (c : Check) → then (settingCheck s) (codesCheck s p) ≡ c → Exact s p (single c (floats (floatPixel s p)) .values)
     go Passed e =
-        let i = is-pixel s p e in
-        Exact.floats (decoded-exact s v (p .red .0) (i .red)) (decoded-exact s v (p .green .0) (i .green)) (decoded-exact s v (p .blue .0) (i .blue))
-    go (Refused r) e = Exact.refused
+        let b = both (settingCheck s) (codesCheck s p) e in
+        let i = is-pixel s p (b .1) in
+        Exact.three (decoded-exact s (b .0) (p .red .0) (i .red)) (decoded-exact s (b .0) (p .green .0) (i .green)) (decoded-exact s (b .0) (p .blue .0) (i .blue))
+    go (Refused r) e = Exact.none
 
 -- a pixel of a valid setting is decoded to the floats of its numbers
-pub pixel-decodes : (s : Setting) → Valid s → (p : Pixel) → IsPixel s p → decodePixelAnswer s p ≡ FloatDecoding.Pixel (floatPixel s p)
-unfolding decodePixelAnswer
+pub pixel-decodes : (s : Setting) → Valid s → (p : Pixel) → IsPixel s p → decodePixelResult s p ≡ done (floats (floatPixel s p))
+unfolding decodePixelResult
 pixel-decodes s v p i = rw (v, i .red, i .green, i .blue)
-
--- the paper's number and values of an answer: those of the first check that fails, or 0 and the values where all pass
-pub decoding-given : (s : Setting) (p : Pixel)
-    → decodingGiven (decodePixelAnswer s p) ≡ givenAfter (then (settingCheck s) (codesCheck s p)) (floatOf (decoded s (p .red .0)) ∷ floatOf (decoded s (p .green .0)) ∷ floatOf (decoded s (p .blue .0)) ∷ [])
-unfolding decodePixelAnswer
-decoding-given s p = go (then (settingCheck s) (codesCheck s p))
-  where
-    go : (c : Check) → decodingGiven (floatsAfter c (floatPixel s p)) ≡ givenAfter c (floatOf (decoded s (p .red .0)) ∷ floatOf (decoded s (p .green .0)) ∷ floatOf (decoded s (p .blue .0)) ∷ [])
-    go Passed = refl
-    go (Refused r) = refl

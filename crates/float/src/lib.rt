@@ -1,12 +1,14 @@
 // Float pixels, and decoding to them: a pixel's scene numbers as three f64.
 ghost use mathlib.Core.Path.{_≡_};
 ghost use Rattle.rules.specs.declared.Check.the-variants.{Passed};
+ghost use Rattle.rules.specs.Refusal.{numberOf};
+ghost use Rattle.rules.specs.Result.{refusedBy, single};
 ghost use Rattle.rules.specs.Setting.{codeCheck, Valid};
 ghost use Rattle.rules.specs.Float.{floatOf};
 ghost use Rattle.rules.specs.WayBack.{IsPixel};
 ghost use Rattle.curve.specs.Decoded.{decoded};
 ghost use Rattle.curve.specs.Ready.{Ready};
-ghost use Rattle.float.specs.Answer.{codesCheck, floatPixel, floatsAfter, decodePixelAnswer, Exact};
+ghost use Rattle.float.specs.Answer.{codesCheck, floatPixel, floats, floatDecodingResult, decodePixelResult, Exact};
 use curve::decoder::Decoder;
 use rules::Check;
 use rules::Code;
@@ -21,10 +23,16 @@ pub struct FloatPixel {
     pub blue: f64,
 }
 
-// What decoding one pixel to floats answers.
+// What decoding one pixel to floats answers: the float pixel, or the refusal number of the cause (`setting::refusal_number`).
 pub enum FloatDecoding {
     Pixel(FloatPixel),
-    Refused(Refusal),
+    Refused(u8),
+}
+
+fn refused(why: Refusal) -> FloatDecoding
+    ensures { λ a. ⌜ floatDecodingResult a ≡ refusedBy (numberOf why) 0 ⌝ }
+{
+    FloatDecoding::Refused(setting::refusal_number(why))
 }
 
 // The checks of the three codes.
@@ -66,10 +74,10 @@ fn floats_of(s: Setting, d: Decoder, t: &[u64; 128], p: Pixel) -> FloatPixel
 
 fn decode_valid(s: Setting, p: Pixel) -> FloatDecoding
     requires { ⌜ Valid s ⌝ }
-    ensures { λ a. ⌜ a ≡ floatsAfter (codesCheck s p) (floatPixel s p) ⌝ }
+    ensures { λ a. ⌜ floatDecodingResult a ≡ single (codesCheck s p) (floats (floatPixel s p)) ⌝ }
 {
     match check_codes(s, p) {
-        Check::Refused(r) => FloatDecoding::Refused(r),
+        Check::Refused(why) => refused(why),
         Check::Passed => {
             let d = Decoder::new(s);
             let t = table::table(s);
@@ -78,13 +86,13 @@ fn decode_valid(s: Setting, p: Pixel) -> FloatDecoding
     }
 }
 
-// The float pixel of a pixel, or the refusal of the first check that fails: 3, 4, 5, then 6 for red, green and blue.
+// The float pixel of a pixel, or the refusal number of the first check that fails: 3, 4, 5, then 6 for red, green and blue.
 pub fn decode_pixel(s: Setting, p: Pixel) -> FloatDecoding
-    ensures { λ a. ⌜ a ≡ decodePixelAnswer s p ⌝ }
-    ensures { λ a. ⌜ Exact s p a ⌝ }
+    ensures { λ a. ⌜ floatDecodingResult a ≡ decodePixelResult s p ⌝ }
+    ensures { λ a. ⌜ Exact s p (floatDecodingResult a .values) ⌝ }
 {
     match setting::check_setting(s) {
-        Check::Refused(r) => FloatDecoding::Refused(r),
+        Check::Refused(why) => refused(why),
         Check::Passed => decode_valid(s, p),
     }
 }

@@ -9,12 +9,11 @@ use libc::STDIN_FILENO;
 use libc::STDOUT_FILENO;
 use rules::Code;
 use rules::Pixel;
-use rules::Refusal;
 use rules::Setting;
 
-fn print_refusal(r: Refusal) {
+fn print_refusal(number: u8) {
     io::write_all(STDOUT_FILENO, b"refused ");
-    io::print_decimal(STDOUT_FILENO, setting::refusal_number(r) as u64);
+    io::print_decimal(STDOUT_FILENO, number as u64);
 }
 
 fn print_three(red: u64, green: u64, blue: u64) {
@@ -40,14 +39,14 @@ fn float_with(bits: u64) -> f64 {
 fn print_floats(a: FloatDecoding) {
     match a {
         FloatDecoding::Pixel(f) => print_three(bits_of(f.red), bits_of(f.green), bits_of(f.blue)),
-        FloatDecoding::Refused(r) => print_refusal(r),
+        FloatDecoding::Refused(number) => print_refusal(number),
     }
 }
 
 fn print_codes(a: FloatEncoding) {
     match a {
         FloatEncoding::Pixel(p) => print_three(p.red.0 as u64, p.green.0 as u64, p.blue.0 as u64),
-        FloatEncoding::Refused(r) => print_refusal(r),
+        FloatEncoding::Refused(number) => print_refusal(number),
     }
 }
 

@@ -1,11 +1,13 @@
 // Encoding from float pixels: the pixel of three f64.
 ghost use mathlib.Core.Path.{_≡_};
 ghost use Rattle.rules.specs.declared.Check.the-variants.{Passed};
+ghost use Rattle.rules.specs.Refusal.{numberOf};
+ghost use Rattle.rules.specs.Result.{refusedBy, single};
 ghost use Rattle.rules.specs.Setting.{Valid};
 ghost use Rattle.rules.specs.Encoding.{sceneCheck};
-ghost use Rattle.rules.specs.WayBack.{pixel};
+ghost use Rattle.rules.specs.WayBack.{pixel, codes};
 ghost use Rattle.encode.specs.Encoded.{encoded};
-ghost use Rattle.from_float.specs.Answer.{floatsCheck, codePixel, codesAfter, encodePixelAnswer};
+ghost use Rattle.from_float.specs.Answer.{floatsCheck, codePixel, floatEncodingResult, encodePixelResult};
 use curve::decoder::Decoder;
 use float::FloatPixel;
 use rules::Check;
@@ -15,10 +17,16 @@ use rules::Scene;
 use rules::Setting;
 use units::Reading;
 
-// What encoding one float pixel answers.
+// What encoding one float pixel answers: the pixel, or the refusal number of the cause (`setting::refusal_number`).
 pub enum FloatEncoding {
     Pixel(Pixel),
-    Refused(Refusal),
+    Refused(u8),
+}
+
+fn refused(why: Refusal) -> FloatEncoding
+    ensures { λ a. ⌜ floatEncodingResult a ≡ refusedBy (numberOf why) 0 ⌝ }
+{
+    FloatEncoding::Refused(setting::refusal_number(why))
 }
 
 fn codes_of(s: Setting, red: Scene, green: Scene, blue: Scene) -> Pixel
@@ -39,26 +47,26 @@ fn codes_of(s: Setting, red: Scene, green: Scene, blue: Scene) -> Pixel
 
 fn encode_valid(s: Setting, f: FloatPixel) -> FloatEncoding
     requires { ⌜ Valid s ⌝ }
-    ensures { λ a. ⌜ a ≡ codesAfter (floatsCheck f) (codePixel s f) ⌝ }
+    ensures { λ a. ⌜ floatEncodingResult a ≡ single (floatsCheck f) (codes (codePixel s f)) ⌝ }
 {
     match units::read(f.red) {
-        Reading::Refused(r) => FloatEncoding::Refused(r),
+        Reading::Refused(why) => refused(why),
         Reading::Scene(red) => match units::read(f.green) {
-            Reading::Refused(r) => FloatEncoding::Refused(r),
+            Reading::Refused(why) => refused(why),
             Reading::Scene(green) => match units::read(f.blue) {
-                Reading::Refused(r) => FloatEncoding::Refused(r),
+                Reading::Refused(why) => refused(why),
                 Reading::Scene(blue) => FloatEncoding::Pixel(codes_of(s, red, green, blue)),
             },
         },
     }
 }
 
-// The pixel of a float pixel, or the refusal of the first check that fails: 3, 4, 5, then 8 and 9 for red, green and blue.
+// The pixel of a float pixel, or the refusal number of the first check that fails: 3, 4, 5, then 8 and 9 for red, green and blue.
 pub fn encode_pixel(s: Setting, f: FloatPixel) -> FloatEncoding
-    ensures { λ a. ⌜ a ≡ encodePixelAnswer s f ⌝ }
+    ensures { λ a. ⌜ floatEncodingResult a ≡ encodePixelResult s f ⌝ }
 {
     match setting::check_setting(s) {
-        Check::Refused(r) => FloatEncoding::Refused(r),
+        Check::Refused(why) => refused(why),
         Check::Passed => encode_valid(s, f),
     }
 }

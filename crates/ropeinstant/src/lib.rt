@@ -2,13 +2,14 @@
 // include/ropeinstant.h declares them.
 ghost use mathlib.Core.Path.{_≡_};
 ghost use Rattle.conversion.specs.Conversions.{pixelToScene, sceneToPixel, pixelToAces, acesToPixel};
-ghost use Rattle.ropeinstant.specs.Given.{number, place, Gives};
+ghost use Rattle.rules.specs.Result.{stripResult};
+ghost use Rattle.ropeinstant.specs.Given.{place, Gives};
 use rules::Answer;
 
 // An answer as C has it: its number, and its place in a word that C lends.
 fn give(a: Answer, at: &mut u64) -> u32
-    ensures { λ n. ⌜ n ≡ number a ⌝ }
-    ensures { λ _. ⌜ now (at .exit) ≡ place a ⌝ }
+    ensures { λ n. ⌜ n ≡ stripResult a .number ⌝ }
+    ensures { λ _. ⌜ now (at .exit) ≡ place (stripResult a) ⌝ }
 {
     match a {
         Answer::Done(n) => {

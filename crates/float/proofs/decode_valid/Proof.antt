@@ -2,7 +2,9 @@
 -- Assumes nothing.
 use mathlib.Core.Path.{sym, ap, _∙_}
 use borrow.Author.Needs.{needs}
-use Rattle.float.specs.declared.FloatDecoding.{FloatDecoding}
+use Rattle.rules.specs.Result.{done}
+use Rattle.float.specs.declared.FloatPixel.{FloatPixel}
+use Rattle.float.specs.Answer.{floats}
 use Rattle.float.proofs.Channels.{is-pixel}
 use Rattle.float.proofs.decode_valid.Statement.{statement}
 use Rattle.float.proofs.decode_valid.Tie as tie
@@ -16,14 +18,14 @@ floats-of-requires c κs =
     )
 
 returns : tie.Need-returns
-returns c = rw (sym (c .before .before .before .check-codes .ensures) ∙ c .before .r .given .1)
+returns c = rw (sym (c .before .before .before .before .check-codes .ensures) ∙ c .before .before .why .given .1) (c .refused .ensures)
 
 returns-2 : tie.Need-returns-2
 returns-2 c =
     let k = c .before .before .before .before in
-    rw (sym (k .before .before .check-codes .ensures) ∙ k .enum-told .given .1) (ap FloatDecoding.Pixel (c .floats-of .ensures))
+    rw (sym (k .before .before .check-codes .ensures) ∙ k .enum-told .given .1) (ap (λ (f : FloatPixel). done (floats f)) (c .floats-of .ensures))
 
 pub decode-valid-spec : {M : Type 1} → statement M
 decode-valid-spec =
     tie.close
-    (tie.spec (λ c κs. search needs) (λ c. search needs) (λ c. search needs) (λ c κs. search needs) (λ c κs. search needs) floats-of-requires returns returns-2)
+    (tie.spec (λ c κs. search needs) (λ c. search needs) (λ c κs. search needs) (λ c. search needs) (λ c κs. search needs) (λ c κs. search needs) floats-of-requires returns returns-2)

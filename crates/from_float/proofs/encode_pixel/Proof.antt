@@ -2,7 +2,7 @@
 -- Assumes nothing.
 use mathlib.Core.Path.{sym, _∙_}
 use borrow.Author.Needs.{needs}
-use Rattle.from_float.specs.Answer.{encodePixelAnswer}
+use Rattle.from_float.specs.Answer.{encodePixelResult}
 use Rattle.from_float.proofs.encode_pixel.Statement.{statement}
 use Rattle.from_float.proofs.encode_pixel.Tie as tie
 
@@ -10,14 +10,14 @@ encode-valid-requires : tie.Need-encode-valid-requires
 encode-valid-requires c κs = sym (c .before .before .check-setting .ensures) ∙ c .enum-told .given .1
 
 returns : tie.Need-returns
-unfolding encodePixelAnswer
-returns c = rw (sym (c .before .before .before .check-setting .ensures) ∙ c .before .r .given .1)
+unfolding encodePixelResult
+returns c = rw (sym (c .before .before .before .before .check-setting .ensures) ∙ c .before .before .why .given .1) (c .refused .ensures)
 
 returns-2 : tie.Need-returns-2
-unfolding encodePixelAnswer
+unfolding encodePixelResult
 returns-2 c =
     rw (sym (c .before .before .before .check-setting .ensures) ∙ c .before .enum-told .given .1) (c .encode-valid .ensures)
 
 pub encode-pixel-spec : {M : Type 1} → statement M
 encode-pixel-spec =
-    tie.close (tie.spec (λ c κs. search needs) (λ c. search needs) (λ c. search needs) encode-valid-requires returns returns-2)
+    tie.close (tie.spec (λ c κs. search needs) (λ c. search needs) (λ c κs. search needs) (λ c. search needs) encode-valid-requires returns returns-2)

@@ -3,10 +3,12 @@
 use mathlib.Core.Path.{_≡_, sym, ap, _∙_}
 use borrow.Author.Needs.{needs}
 use Rattle.rules.specs.declared.Check.the-variants.{Passed}
+use Rattle.rules.specs.declared.Pixel.{Pixel}
 use Rattle.rules.specs.declared.Scene.{Scene}
+use Rattle.rules.specs.Result.{done}
+use Rattle.rules.specs.WayBack.{codes}
 use Rattle.rules.specs.Encoding.{sceneCheck}
 use lib.Ieee.{Float}
-use Rattle.from_float.specs.declared.FloatEncoding.{FloatEncoding}
 use Rattle.units.specs.declared.Reading.{Reading}
 use Rattle.units.specs.Reading.{readAnswer}
 use Rattle.units.proofs.Readings.{check-is, scene-is}
@@ -37,18 +39,18 @@ codes-of-requires c κs =
     (s .pre, (passes _ _ (red-read r), (passes _ _ (green-read g), passes _ _ (blue-read b))))
 
 returns : tie.Need-returns
-returns c = rw (check-is _ _ (sym (c .before .before .before .read .ensures) ∙ c .before .r .given .1))
+returns c = rw (check-is _ _ (sym (c .before .before .before .before .read .ensures) ∙ c .before .before .why .given .1)) (c .refused .ensures)
 
 returns-2 : tie.Need-returns-2
 returns-2 c =
-    let k = c .before .before .before in
-    rw (check-is _ _ (red-read (k .before .before)), check-is _ _ (sym (k .read2 .ensures) ∙ c .before .r2 .given .1))
+    let k = c .before .before .before .before in
+    rw (check-is _ _ (red-read (k .before .before)), check-is _ _ (sym (k .read2 .ensures) ∙ c .before .before .why2 .given .1)) (c .refused2 .ensures)
 
 returns-3 : tie.Need-returns-3
 returns-3 c =
-    let k = c .before .before .before in
+    let k = c .before .before .before .before in
     let g = k .before .before in
-    rw (check-is _ _ (red-read (g .before .before .before .before)), check-is _ _ (green-read g), check-is _ _ (sym (k .read3 .ensures) ∙ c .before .r3 .given .1))
+    rw (check-is _ _ (red-read (g .before .before .before .before)), check-is _ _ (green-read g), check-is _ _ (sym (k .read3 .ensures) ∙ c .before .before .why3 .given .1)) (c .refused3 .ensures)
 
 returns-4 : tie.Need-returns-4
 returns-4 c =
@@ -56,7 +58,7 @@ returns-4 c =
     let g = b .before .before .before .before in
     let r = g .before .before .before .before in
     rw (check-is _ _ (red-read r), check-is _ _ (green-read g), check-is _ _ (blue-read b), scene-is _ _ (red-read r), scene-is _ _ (green-read g), scene-is _ _ (blue-read b))
-    (λ i. FloatEncoding.Pixel (c .codes-of .ensures i))
+    (ap (λ (p : Pixel). done (codes p)) (c .codes-of .ensures))
 
 pub encode-valid-spec : {M : Type 1} → statement M
 encode-valid-spec =
@@ -64,12 +66,15 @@ encode-valid-spec =
     (tie.spec
     (λ c κs. search needs)
     (λ c. search needs)
+    (λ c κs. search needs)
     (λ c. search needs)
     (λ c κs. search needs)
     (λ c. search needs)
+    (λ c κs. search needs)
     (λ c. search needs)
     (λ c κs. search needs)
     (λ c. search needs)
+    (λ c κs. search needs)
     (λ c. search needs)
     codes-of-requires
     returns
