@@ -1,7 +1,7 @@
 -- What encoding one scene number gives.
 -- Assumes nothing.
 use mathlib.Core.List.{[], _∷_}
-use Prim.Native.Nat.{ℕ}
+use Prim.Native.Nat.{ℕ, suc}
 use lib.IntN.{ℤ}
 use Rattle.rules.specs.declared.Setting.{Setting}
 use Rattle.rules.specs.Refusal.{then, numberOf}
