@@ -254,7 +254,7 @@ def tests(sources, block):
     for word in re.split("[,;]", re.sub(r"`[^`]*`.*|\(.*\)", "", block.text)):
         word = word.strip()
         stored = (ROOT / "crates" / word / "stdout").exists()
-        if word and word != "unit test" and not (word.isalpha() and (stored or f"tests/{word}.py" in sources.gate)):
+        if word and word != "unit test" and not (word.isidentifier() and (stored or f"tests/{word}.py" in sources.gate)):
             yield f"{block.document}:{block.line}: {word} is no test of ./gate"
 
 
