@@ -10,29 +10,92 @@ use rules::Scene;
 use rules::Setting;
 use rules::Triple;
 
-// The inverse of the matrix of each curve, over 2^40, by two digits to the base 2^21.
+// The inverse of the matrix of each curve, over 2^40.
+const LOG_C3_BACK: [[i64; 3]; 3] = [
+    [1666845747229, -397300528251, -170033591202],
+    [-141097559821, 1120748249465, 119860938131],
+    [-11556925031, 66887523426, 1044181029382],
+];
+
+const LOG_C4_BACK: [[i64; 3]; 3] = [
+    [1464273425074, -210052714742, -154709082556],
+    [-1188600726, 1091615728564, 9084499938],
+    [730062762, 826298081, 1097955266932],
+];
+
+// Their entries by two digits to the base 2^21. A digit has the sign of its entry.
+const BASE: i64 = 2097152;
+
 const LOG_C3_BACK_HIGH: [[i64; 3]; 3] = [
-    [794813, -189448, -81079],
-    [-67281, 534414, 57154],
-    [-5511, 31894, 497904],
+    [
+        LOG_C3_BACK[0][0] / BASE,
+        LOG_C3_BACK[0][1] / BASE,
+        LOG_C3_BACK[0][2] / BASE,
+    ],
+    [
+        LOG_C3_BACK[1][0] / BASE,
+        LOG_C3_BACK[1][1] / BASE,
+        LOG_C3_BACK[1][2] / BASE,
+    ],
+    [
+        LOG_C3_BACK[2][0] / BASE,
+        LOG_C3_BACK[2][1] / BASE,
+        LOG_C3_BACK[2][2] / BASE,
+    ],
 ];
 
 const LOG_C3_BACK_LOW: [[i64; 3]; 3] = [
-    [2074653, 723845, 1395806],
-    [923891, 860537, 312723],
-    [479641, 957538, 659974],
+    [
+        LOG_C3_BACK[0][0] % BASE,
+        LOG_C3_BACK[0][1] % BASE,
+        LOG_C3_BACK[0][2] % BASE,
+    ],
+    [
+        LOG_C3_BACK[1][0] % BASE,
+        LOG_C3_BACK[1][1] % BASE,
+        LOG_C3_BACK[1][2] % BASE,
+    ],
+    [
+        LOG_C3_BACK[2][0] % BASE,
+        LOG_C3_BACK[2][1] % BASE,
+        LOG_C3_BACK[2][2] % BASE,
+    ],
 ];
 
 const LOG_C4_BACK_HIGH: [[i64; 3]; 3] = [
-    [698219, -100161, -73772],
-    [-567, 520522, 4331],
-    [348, 394, 523545],
+    [
+        LOG_C4_BACK[0][0] / BASE,
+        LOG_C4_BACK[0][1] / BASE,
+        LOG_C4_BACK[0][2] / BASE,
+    ],
+    [
+        LOG_C4_BACK[1][0] / BASE,
+        LOG_C4_BACK[1][1] / BASE,
+        LOG_C4_BACK[1][2] / BASE,
+    ],
+    [
+        LOG_C4_BACK[2][0] / BASE,
+        LOG_C4_BACK[2][1] / BASE,
+        LOG_C4_BACK[2][2] / BASE,
+    ],
 ];
 
 const LOG_C4_BACK_LOW: [[i64; 3]; 3] = [
-    [2052786, 126730, 2014788],
-    [484458, 1975220, 1734626],
-    [253866, 20193, 1823092],
+    [
+        LOG_C4_BACK[0][0] % BASE,
+        LOG_C4_BACK[0][1] % BASE,
+        LOG_C4_BACK[0][2] % BASE,
+    ],
+    [
+        LOG_C4_BACK[1][0] % BASE,
+        LOG_C4_BACK[1][1] % BASE,
+        LOG_C4_BACK[1][2] % BASE,
+    ],
+    [
+        LOG_C4_BACK[2][0] % BASE,
+        LOG_C4_BACK[2][1] % BASE,
+        LOG_C4_BACK[2][2] % BASE,
+    ],
 ];
 
 // The three scene numbers that a way back tries.
@@ -69,7 +132,7 @@ fn over_binary(l: i64, h: i64) -> i64
     requires { ⌜ Sum h ⌝ }
     ensures { λ r. ⌜ r ≡ nearest (integer (pair h l) /ℚ whole (2 ^ 40)) ⌝ }
 {
-    let carry = whole::floor_div(l, 2097152);
+    let carry = whole::floor_div(l, BASE);
     whole::floor_div(h + carry + 262144, 524288)
 }
 

@@ -18,24 +18,69 @@ const LOG_C3: [[i64; 3]; 3] = [
     [2057, -62563, 1060506],
 ];
 
-// The matrix of curve 4, over 10^18, by the digits of its entries to the base 10^6: the entry 821837079380207 is 821, 837079 and 380207. The
-// lower two digits are not below 0.
+// The matrix of curve 4, over 10^18.
+const LOG_C4: [[i64; 3]; 3] = [
+    [750957362824734131, 144422786709757084, 104619850465508965],
+    [821837079380207, 1007397584885003194, -8219421964383583],
+    [-499952143533471, -854177231436971, 1001354129374970370],
+];
+
+// Its entries by their digits to the base 10^6, since a product with a whole entry would not fit: 821837079380207 is 821, 837079 and 380207. A
+// digit has the sign of its entry.
+const BASE: i64 = 1000000;
+
 const LOG_C4_HIGH: [[i64; 3]; 3] = [
-    [750957, 144422, 104619],
-    [821, 1007397, -8220],
-    [-500, -855, 1001354],
+    [
+        LOG_C4[0][0] / BASE / BASE,
+        LOG_C4[0][1] / BASE / BASE,
+        LOG_C4[0][2] / BASE / BASE,
+    ],
+    [
+        LOG_C4[1][0] / BASE / BASE,
+        LOG_C4[1][1] / BASE / BASE,
+        LOG_C4[1][2] / BASE / BASE,
+    ],
+    [
+        LOG_C4[2][0] / BASE / BASE,
+        LOG_C4[2][1] / BASE / BASE,
+        LOG_C4[2][2] / BASE / BASE,
+    ],
 ];
 
 const LOG_C4_MIDDLE: [[i64; 3]; 3] = [
-    [362824, 786709, 850465],
-    [837079, 584885, 578035],
-    [47856, 822768, 129374],
+    [
+        LOG_C4[0][0] / BASE % BASE,
+        LOG_C4[0][1] / BASE % BASE,
+        LOG_C4[0][2] / BASE % BASE,
+    ],
+    [
+        LOG_C4[1][0] / BASE % BASE,
+        LOG_C4[1][1] / BASE % BASE,
+        LOG_C4[1][2] / BASE % BASE,
+    ],
+    [
+        LOG_C4[2][0] / BASE % BASE,
+        LOG_C4[2][1] / BASE % BASE,
+        LOG_C4[2][2] / BASE % BASE,
+    ],
 ];
 
 const LOG_C4_LOW: [[i64; 3]; 3] = [
-    [734131, 757084, 508965],
-    [380207, 3194, 616417],
-    [466529, 563029, 970370],
+    [
+        LOG_C4[0][0] % BASE,
+        LOG_C4[0][1] % BASE,
+        LOG_C4[0][2] % BASE,
+    ],
+    [
+        LOG_C4[1][0] % BASE,
+        LOG_C4[1][1] % BASE,
+        LOG_C4[1][2] % BASE,
+    ],
+    [
+        LOG_C4[2][0] % BASE,
+        LOG_C4[2][1] % BASE,
+        LOG_C4[2][2] % BASE,
+    ],
 ];
 
 // A row product over 10^6, rounded once.
