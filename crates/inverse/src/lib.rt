@@ -5,98 +5,13 @@ ghost use Rattle.rules.specs.Fraction.{integer, whole, _/ℚ_, nearest};
 ghost use Rattle.rows.specs.Row.{Number, Sum};
 ghost use Rattle.inverse.specs.Given.{Given};
 ghost use Rattle.inverse.specs.Inverse.{lowRows, highRows, pair, IsCandidate};
+
+mod entries;
+
 use rows::Numbers;
 use rules::Scene;
 use rules::Setting;
 use rules::Triple;
-
-// The inverse of the matrix of each curve, over 2^40.
-const LOG_C3_BACK: [[i64; 3]; 3] = [
-    [1666845747229, -397300528251, -170033591202],
-    [-141097559821, 1120748249465, 119860938131],
-    [-11556925031, 66887523426, 1044181029382],
-];
-
-const LOG_C4_BACK: [[i64; 3]; 3] = [
-    [1464273425074, -210052714742, -154709082556],
-    [-1188600726, 1091615728564, 9084499938],
-    [730062762, 826298081, 1097955266932],
-];
-
-// Their entries by two digits to the base 2^21. A digit has the sign of its entry.
-const BASE: i64 = 2097152;
-
-const LOG_C3_BACK_HIGH: [[i64; 3]; 3] = [
-    [
-        LOG_C3_BACK[0][0] / BASE,
-        LOG_C3_BACK[0][1] / BASE,
-        LOG_C3_BACK[0][2] / BASE,
-    ],
-    [
-        LOG_C3_BACK[1][0] / BASE,
-        LOG_C3_BACK[1][1] / BASE,
-        LOG_C3_BACK[1][2] / BASE,
-    ],
-    [
-        LOG_C3_BACK[2][0] / BASE,
-        LOG_C3_BACK[2][1] / BASE,
-        LOG_C3_BACK[2][2] / BASE,
-    ],
-];
-
-const LOG_C3_BACK_LOW: [[i64; 3]; 3] = [
-    [
-        LOG_C3_BACK[0][0] % BASE,
-        LOG_C3_BACK[0][1] % BASE,
-        LOG_C3_BACK[0][2] % BASE,
-    ],
-    [
-        LOG_C3_BACK[1][0] % BASE,
-        LOG_C3_BACK[1][1] % BASE,
-        LOG_C3_BACK[1][2] % BASE,
-    ],
-    [
-        LOG_C3_BACK[2][0] % BASE,
-        LOG_C3_BACK[2][1] % BASE,
-        LOG_C3_BACK[2][2] % BASE,
-    ],
-];
-
-const LOG_C4_BACK_HIGH: [[i64; 3]; 3] = [
-    [
-        LOG_C4_BACK[0][0] / BASE,
-        LOG_C4_BACK[0][1] / BASE,
-        LOG_C4_BACK[0][2] / BASE,
-    ],
-    [
-        LOG_C4_BACK[1][0] / BASE,
-        LOG_C4_BACK[1][1] / BASE,
-        LOG_C4_BACK[1][2] / BASE,
-    ],
-    [
-        LOG_C4_BACK[2][0] / BASE,
-        LOG_C4_BACK[2][1] / BASE,
-        LOG_C4_BACK[2][2] / BASE,
-    ],
-];
-
-const LOG_C4_BACK_LOW: [[i64; 3]; 3] = [
-    [
-        LOG_C4_BACK[0][0] % BASE,
-        LOG_C4_BACK[0][1] % BASE,
-        LOG_C4_BACK[0][2] % BASE,
-    ],
-    [
-        LOG_C4_BACK[1][0] % BASE,
-        LOG_C4_BACK[1][1] % BASE,
-        LOG_C4_BACK[1][2] % BASE,
-    ],
-    [
-        LOG_C4_BACK[2][0] % BASE,
-        LOG_C4_BACK[2][1] % BASE,
-        LOG_C4_BACK[2][2] % BASE,
-    ],
-];
 
 // The three scene numbers that a way back tries.
 pub struct Scenes {
@@ -110,9 +25,9 @@ fn high_of(s: Setting) -> [[i64; 3]; 3]
     ensures { λ m. ⌜ m ≡ highRows s ⌝ }
 {
     if s.curve == 3 {
-        LOG_C3_BACK_HIGH
+        entries::LOG_C3_BACK_HIGH
     } else {
-        LOG_C4_BACK_HIGH
+        entries::LOG_C4_BACK_HIGH
     }
 }
 
@@ -120,9 +35,9 @@ fn low_of(s: Setting) -> [[i64; 3]; 3]
     ensures { λ m. ⌜ m ≡ lowRows s ⌝ }
 {
     if s.curve == 3 {
-        LOG_C3_BACK_LOW
+        entries::LOG_C3_BACK_LOW
     } else {
-        LOG_C4_BACK_LOW
+        entries::LOG_C4_BACK_LOW
     }
 }
 
@@ -132,7 +47,7 @@ fn over_binary(l: i64, h: i64) -> i64
     requires { ⌜ Sum h ⌝ }
     ensures { λ r. ⌜ r ≡ nearest (integer (pair h l) /ℚ whole (2 ^ 40)) ⌝ }
 {
-    let carry = whole::floor_div(l, BASE);
+    let carry = whole::floor_div(l, entries::BASE);
     whole::floor_div(h + carry + 262144, 524288)
 }
 

@@ -5,83 +5,14 @@ ghost use Rattle.rules.specs.Fraction.{integer, whole, _/ℚ_, nearest};
 ghost use Rattle.rules.specs.Matrix.{logC3Matrix, logC4Matrix, matrixOf, IsAces};
 ghost use Rattle.rows.specs.Row.{Number, Sum};
 ghost use Rattle.matrix.specs.Joined.{joined};
+
+mod entries;
+
 use rows::Numbers;
 use rules::Aces;
 use rules::Scene;
 use rules::Setting;
 use rules::Triple;
-
-// The matrix of curve 3, over 10^6.
-const LOG_C3: [[i64; 3]; 3] = [
-    [680205, 236137, 83658],
-    [85415, 1017471, -102886],
-    [2057, -62563, 1060506],
-];
-
-// The matrix of curve 4, over 10^18.
-const LOG_C4: [[i64; 3]; 3] = [
-    [750957362824734131, 144422786709757084, 104619850465508965],
-    [821837079380207, 1007397584885003194, -8219421964383583],
-    [-499952143533471, -854177231436971, 1001354129374970370],
-];
-
-// Its entries by their digits to the base 10^6, since a product with a whole entry would not fit: 821837079380207 is 821, 837079 and 380207. A
-// digit has the sign of its entry.
-const BASE: i64 = 1000000;
-
-const LOG_C4_HIGH: [[i64; 3]; 3] = [
-    [
-        LOG_C4[0][0] / BASE / BASE,
-        LOG_C4[0][1] / BASE / BASE,
-        LOG_C4[0][2] / BASE / BASE,
-    ],
-    [
-        LOG_C4[1][0] / BASE / BASE,
-        LOG_C4[1][1] / BASE / BASE,
-        LOG_C4[1][2] / BASE / BASE,
-    ],
-    [
-        LOG_C4[2][0] / BASE / BASE,
-        LOG_C4[2][1] / BASE / BASE,
-        LOG_C4[2][2] / BASE / BASE,
-    ],
-];
-
-const LOG_C4_MIDDLE: [[i64; 3]; 3] = [
-    [
-        LOG_C4[0][0] / BASE % BASE,
-        LOG_C4[0][1] / BASE % BASE,
-        LOG_C4[0][2] / BASE % BASE,
-    ],
-    [
-        LOG_C4[1][0] / BASE % BASE,
-        LOG_C4[1][1] / BASE % BASE,
-        LOG_C4[1][2] / BASE % BASE,
-    ],
-    [
-        LOG_C4[2][0] / BASE % BASE,
-        LOG_C4[2][1] / BASE % BASE,
-        LOG_C4[2][2] / BASE % BASE,
-    ],
-];
-
-const LOG_C4_LOW: [[i64; 3]; 3] = [
-    [
-        LOG_C4[0][0] % BASE,
-        LOG_C4[0][1] % BASE,
-        LOG_C4[0][2] % BASE,
-    ],
-    [
-        LOG_C4[1][0] % BASE,
-        LOG_C4[1][1] % BASE,
-        LOG_C4[1][2] % BASE,
-    ],
-    [
-        LOG_C4[2][0] % BASE,
-        LOG_C4[2][1] % BASE,
-        LOG_C4[2][2] % BASE,
-    ],
-];
 
 // A row product over 10^6, rounded once.
 fn over_million(p: i64) -> i64
@@ -109,7 +40,7 @@ fn aces_c3(x: i64, y: i64, z: i64) -> Numbers
     requires { ⌜ Number z ⌝ }
     ensures { λ r. ⌜ IsAces logC3Matrix x y z (r .red) (r .green) (r .blue) ⌝ }
 {
-    let p = rows::products(LOG_C3, x, y, z);
+    let p = rows::products(entries::LOG_C3, x, y, z);
     Numbers {
         red: over_million(p.red),
         green: over_million(p.green),
@@ -123,9 +54,9 @@ fn aces_c4(x: i64, y: i64, z: i64) -> Numbers
     requires { ⌜ Number z ⌝ }
     ensures { λ r. ⌜ IsAces logC4Matrix x y z (r .red) (r .green) (r .blue) ⌝ }
 {
-    let l = rows::products(LOG_C4_LOW, x, y, z);
-    let m = rows::products(LOG_C4_MIDDLE, x, y, z);
-    let h = rows::products(LOG_C4_HIGH, x, y, z);
+    let l = rows::products(entries::LOG_C4_LOW, x, y, z);
+    let m = rows::products(entries::LOG_C4_MIDDLE, x, y, z);
+    let h = rows::products(entries::LOG_C4_HIGH, x, y, z);
     Numbers {
         red: over_digits(l.red, m.red, h.red),
         green: over_digits(l.green, m.green, h.green),
