@@ -2,13 +2,12 @@
 ghost use mathlib.Core.Path.{_≡_};
 ghost use Prim.Native.Nat.{_^_};
 ghost use Rattle.rules.specs.Fraction.{integer, whole, _/ℚ_, nearest};
-ghost use Rattle.rows.specs.Row.{Number, Sum};
+ghost use Rattle.rows.specs.Row.{Sum};
 ghost use Rattle.inverse.specs.Given.{Given};
 ghost use Rattle.inverse.specs.Inverse.{lowRows, highRows, pair, IsCandidate};
 
 mod entries;
 
-use rows::Numbers;
 use rules::Scene;
 use rules::Setting;
 use rules::Triple;
@@ -51,30 +50,19 @@ fn over_binary(l: i64, h: i64) -> i64
     whole::floor_div(h + carry + 262144, 524288)
 }
 
-fn back_of(s: Setting, x: i64, y: i64, z: i64) -> Numbers
-    requires { ⌜ Number x ⌝ }
-    requires { ⌜ Number y ⌝ }
-    requires { ⌜ Number z ⌝ }
-    ensures { λ r. ⌜ IsCandidate s x y z (r .red) (r .green) (r .blue) ⌝ }
-{
-    let l = rows::products(low_of(s), x, y, z);
-    let h = rows::products(high_of(s), x, y, z);
-    Numbers {
-        red: over_binary(l.red, h.red),
-        green: over_binary(l.green, h.green),
-        blue: over_binary(l.blue, h.blue),
-    }
-}
-
 // The scene numbers that a way back tries for three ACES numbers.
 pub fn candidate(s: Setting, a: Triple) -> Scenes
     requires { ⌜ Given (a .red .0) (a .green .0) (a .blue .0) ⌝ }
     ensures { λ r. ⌜ IsCandidate s (a .red .0) (a .green .0) (a .blue .0) (r .red .0) (r .green .0) (r .blue .0) ⌝ }
 {
-    let r = back_of(s, a.red.0, a.green.0, a.blue.0);
+    let red = a.red.0;
+    let green = a.green.0;
+    let blue = a.blue.0;
+    let l = rows::products(low_of(s), red, green, blue);
+    let h = rows::products(high_of(s), red, green, blue);
     Scenes {
-        red: Scene(r.red),
-        green: Scene(r.green),
-        blue: Scene(r.blue),
+        red: Scene(over_binary(l.red, h.red)),
+        green: Scene(over_binary(l.green, h.green)),
+        blue: Scene(over_binary(l.blue, h.blue)),
     }
 }
