@@ -24,9 +24,9 @@ fn high_of(s: Setting) -> [[i64; 3]; 3]
     ensures { λ m. ⌜ m ≡ highRows s ⌝ }
 {
     if s.curve == 3 {
-        entries::LOG_C3_BACK_HIGH
+        entries::BACK_3_HIGH
     } else {
-        entries::LOG_C4_BACK_HIGH
+        entries::BACK_4_HIGH
     }
 }
 
@@ -34,9 +34,9 @@ fn low_of(s: Setting) -> [[i64; 3]; 3]
     ensures { λ m. ⌜ m ≡ lowRows s ⌝ }
 {
     if s.curve == 3 {
-        entries::LOG_C3_BACK_LOW
+        entries::BACK_3_LOW
     } else {
-        entries::LOG_C4_BACK_LOW
+        entries::BACK_4_LOW
     }
 }
 
@@ -46,7 +46,7 @@ fn over_binary(l: i64, h: i64) -> i64
     requires { ⌜ Sum h ⌝ }
     ensures { λ r. ⌜ r ≡ nearest (integer (pair h l) /ℚ whole (2 ^ 40)) ⌝ }
 {
-    let carry = whole::floor_div(l, entries::BASE);
+    let carry = whole::floor_div(l, entries::P21);
     whole::floor_div(h + carry + 262144, 524288)
 }
 

@@ -16,58 +16,28 @@ const LOG_C4: [[i64; 3]; 3] = [
 
 // Its entries by three digits to the base 10^6, since a product with a whole entry does not fit a
 // word: 821837079380207 is 821, 837079 and 380207. A digit has the sign of its entry.
-const BASE: i64 = 1000000;
+const E6: i64 = 1000000;
+
+const UPPER: [[i64; 3]; 3] = [
+    [LOG_C4[0][0] / E6, LOG_C4[0][1] / E6, LOG_C4[0][2] / E6],
+    [LOG_C4[1][0] / E6, LOG_C4[1][1] / E6, LOG_C4[1][2] / E6],
+    [LOG_C4[2][0] / E6, LOG_C4[2][1] / E6, LOG_C4[2][2] / E6],
+];
 
 pub const LOG_C4_HIGH: [[i64; 3]; 3] = [
-    [
-        LOG_C4[0][0] / BASE / BASE,
-        LOG_C4[0][1] / BASE / BASE,
-        LOG_C4[0][2] / BASE / BASE,
-    ],
-    [
-        LOG_C4[1][0] / BASE / BASE,
-        LOG_C4[1][1] / BASE / BASE,
-        LOG_C4[1][2] / BASE / BASE,
-    ],
-    [
-        LOG_C4[2][0] / BASE / BASE,
-        LOG_C4[2][1] / BASE / BASE,
-        LOG_C4[2][2] / BASE / BASE,
-    ],
+    [UPPER[0][0] / E6, UPPER[0][1] / E6, UPPER[0][2] / E6],
+    [UPPER[1][0] / E6, UPPER[1][1] / E6, UPPER[1][2] / E6],
+    [UPPER[2][0] / E6, UPPER[2][1] / E6, UPPER[2][2] / E6],
 ];
 
 pub const LOG_C4_MIDDLE: [[i64; 3]; 3] = [
-    [
-        LOG_C4[0][0] / BASE % BASE,
-        LOG_C4[0][1] / BASE % BASE,
-        LOG_C4[0][2] / BASE % BASE,
-    ],
-    [
-        LOG_C4[1][0] / BASE % BASE,
-        LOG_C4[1][1] / BASE % BASE,
-        LOG_C4[1][2] / BASE % BASE,
-    ],
-    [
-        LOG_C4[2][0] / BASE % BASE,
-        LOG_C4[2][1] / BASE % BASE,
-        LOG_C4[2][2] / BASE % BASE,
-    ],
+    [UPPER[0][0] % E6, UPPER[0][1] % E6, UPPER[0][2] % E6],
+    [UPPER[1][0] % E6, UPPER[1][1] % E6, UPPER[1][2] % E6],
+    [UPPER[2][0] % E6, UPPER[2][1] % E6, UPPER[2][2] % E6],
 ];
 
 pub const LOG_C4_LOW: [[i64; 3]; 3] = [
-    [
-        LOG_C4[0][0] % BASE,
-        LOG_C4[0][1] % BASE,
-        LOG_C4[0][2] % BASE,
-    ],
-    [
-        LOG_C4[1][0] % BASE,
-        LOG_C4[1][1] % BASE,
-        LOG_C4[1][2] % BASE,
-    ],
-    [
-        LOG_C4[2][0] % BASE,
-        LOG_C4[2][1] % BASE,
-        LOG_C4[2][2] % BASE,
-    ],
+    [LOG_C4[0][0] % E6, LOG_C4[0][1] % E6, LOG_C4[0][2] % E6],
+    [LOG_C4[1][0] % E6, LOG_C4[1][1] % E6, LOG_C4[1][2] % E6],
+    [LOG_C4[2][0] % E6, LOG_C4[2][1] % E6, LOG_C4[2][2] % E6],
 ];
