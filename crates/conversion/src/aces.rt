@@ -21,7 +21,7 @@ pub fn write_triple(s: Setting, d: Decoder, t: &[u64; 128], r: &[u8], out: &mut 
     ensures { λ _. ⌜ now (out .exit) ≡ acesRecord s (pixelAces s (pixelIn (now (r .entry)))) ⌝ }
 {
     let a = wayback::to_aces(s, d, t, records::pixel_in(r));
-    records::put_numbers(out, s, a.red.0, a.green.0, a.blue.0);
+    records::put_aces(out, s, a);
 }
 
 // The check of an ACES record: refusal 10.
@@ -42,5 +42,5 @@ pub fn write_back(s: Setting, d: Decoder, t: &[u64; 128], r: &[u8], out: &mut [u
     ensures { λ _. ⌜ now (out .exit) ≡ pixelRecord s (pixelFound (pixelFor s (tripleIn (now (r .entry))))) ⌝ }
 {
     let p = wayback::pixel_of(s, d, t, records::triple_in(r));
-    records::put_codes(out, s, p.red.0, p.green.0, p.blue.0);
+    records::put_pixel(out, s, p);
 }

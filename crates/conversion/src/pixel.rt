@@ -61,5 +61,5 @@ pub fn write_scene(s: Setting, d: Decoder, t: &[u64; 128], r: &[u8], out: &mut [
     let red = scene_at(s, d, t, r, 4);
     let green = scene_at(s, d, t, r, 6);
     let blue = scene_at(s, d, t, r, 8);
-    records::put_numbers(out, s, red.0, green.0, blue.0);
+    records::put_scene(out, s, red, green, blue);
 }

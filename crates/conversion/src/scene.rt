@@ -9,6 +9,7 @@ ghost use Rattle.conversion.specs.Conversions.{channelChecks, eachChanne
 use curve::decoder::Decoder;
 use rules::Check;
 use rules::Code;
+use rules::Pixel;
 use rules::Scene;
 use rules::Setting;
 
@@ -54,8 +55,10 @@ pub fn write_pixel(s: Setting, d: Decoder, t: &[u64; 128], r: &[u8], out: &mut [
     requires { ⌜ length (now out) ≡ 10 ⌝ }
     ensures { λ _. ⌜ now (out .exit) ≡ eachChannel 8 2 s (codeBits s) (now (r .entry)) ⌝ }
 {
-    let red = code_at(s, d, t, r, 4);
-    let green = code_at(s, d, t, r, 12);
-    let blue = code_at(s, d, t, r, 20);
-    records::put_codes(out, s, red.0, green.0, blue.0);
+    let p = Pixel {
+        red: code_at(s, d, t, r, 4),
+        green: code_at(s, d, t, r, 12),
+        blue: code_at(s, d, t, r, 20),
+    };
+    records::put_pixel(out, s, p);
 }

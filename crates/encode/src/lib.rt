@@ -49,8 +49,8 @@ pub fn code_of(s: Setting, d: Decoder, t: &[u64; 128], x: Scene) -> Code
     if number < -OFFSET {
         return Code(0);
     }
-    let top = setting::top_code(s) as u64;
-    Code(search::find(s, d, t, top, (number + OFFSET) as u64) as u16)
+    let top = Code(setting::top_code(s));
+    search::find(s, d, t, top, (number + OFFSET) as u64)
 }
 
 fn encode_valid(s: Setting, x: Scene) -> Encoding

@@ -2,38 +2,15 @@
 ghost use mathlib.Core.Path.{_≡_};
 ghost use Prim.Native.Nat.{_^_};
 ghost use Rattle.rules.specs.Fraction.{integer, whole, _/ℚ_, nearest};
-ghost use Rattle.rows.specs.Row.{Number, Sum};
+ghost use Rattle.rows.specs.Row.{Sum};
 ghost use Rattle.inverse.specs.Given.{Given};
 ghost use Rattle.inverse.specs.Inverse.{lowRows, highRows, pair, IsCandidate};
-use rows::Numbers;
+
+mod entries;
+
 use rules::Scene;
 use rules::Setting;
 use rules::Triple;
-
-// The inverse of the matrix of each curve, over 2^40, by two digits to the base 2^21.
-const LOG_C3_BACK_HIGH: [[i64; 3]; 3] = [
-    [794813, -189448, -81079],
-    [-67281, 534414, 57154],
-    [-5511, 31894, 497904],
-];
-
-const LOG_C3_BACK_LOW: [[i64; 3]; 3] = [
-    [2074653, 723845, 1395806],
-    [923891, 860537, 312723],
-    [479641, 957538, 659974],
-];
-
-const LOG_C4_BACK_HIGH: [[i64; 3]; 3] = [
-    [698219, -100161, -73772],
-    [-567, 520522, 4331],
-    [348, 394, 523545],
-];
-
-const LOG_C4_BACK_LOW: [[i64; 3]; 3] = [
-    [2052786, 126730, 2014788],
-    [484458, 1975220, 1734626],
-    [253866, 20193, 1823092],
-];
 
 // The three scene numbers that a way back tries.
 pub struct Scenes {
@@ -47,9 +24,9 @@ fn high_of(s: Setting) -> [[i64; 3]; 3]
     ensures { λ m. ⌜ m ≡ highRows s ⌝ }
 {
     if s.curve == 3 {
-        LOG_C3_BACK_HIGH
+        entries::BACK_3_HIGH
     } else {
-        LOG_C4_BACK_HIGH
+        entries::BACK_4_HIGH
     }
 }
 
@@ -57,9 +34,9 @@ fn low_of(s: Setting) -> [[i64; 3]; 3]
     ensures { λ m. ⌜ m ≡ lowRows s ⌝ }
 {
     if s.curve == 3 {
-        LOG_C3_BACK_LOW
+        entries::BACK_3_LOW
     } else {
-        LOG_C4_BACK_LOW
+        entries::BACK_4_LOW
     }
 }
 
@@ -69,23 +46,8 @@ fn over_binary(l: i64, h: i64) -> i64
     requires { ⌜ Sum h ⌝ }
     ensures { λ r. ⌜ r ≡ nearest (integer (pair h l) /ℚ whole (2 ^ 40)) ⌝ }
 {
-    let carry = whole::floor_div(l, 2097152);
+    let carry = whole::floor_div(l, entries::P21);
     whole::floor_div(h + carry + 262144, 524288)
-}
-
-fn back_of(s: Setting, x: i64, y: i64, z: i64) -> Numbers
-    requires { ⌜ Number x ⌝ }
-    requires { ⌜ Number y ⌝ }
-    requires { ⌜ Number z ⌝ }
-    ensures { λ r. ⌜ IsCandidate s x y z (r .red) (r .green) (r .blue) ⌝ }
-{
-    let l = rows::products(low_of(s), x, y, z);
-    let h = rows::products(high_of(s), x, y, z);
-    Numbers {
-        red: over_binary(l.red, h.red),
-        green: over_binary(l.green, h.green),
-        blue: over_binary(l.blue, h.blue),
-    }
 }
 
 // The scene numbers that a way back tries for three ACES numbers.
@@ -93,10 +55,14 @@ pub fn candidate(s: Setting, a: Triple) -> Scenes
     requires { ⌜ Given (a .red .0) (a .green .0) (a .blue .0) ⌝ }
     ensures { λ r. ⌜ IsCandidate s (a .red .0) (a .green .0) (a .blue .0) (r .red .0) (r .green .0) (r .blue .0) ⌝ }
 {
-    let r = back_of(s, a.red.0, a.green.0, a.blue.0);
+    let red = a.red.0;
+    let green = a.green.0;
+    let blue = a.blue.0;
+    let l = rows::products(low_of(s), red, green, blue);
+    let h = rows::products(high_of(s), red, green, blue);
     Scenes {
-        red: Scene(r.red),
-        green: Scene(r.green),
-        blue: Scene(r.blue),
+        red: Scene(over_binary(l.red, h.red)),
+        green: Scene(over_binary(l.green, h.green)),
+        blue: Scene(over_binary(l.blue, h.blue)),
     }
 }

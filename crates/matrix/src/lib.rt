@@ -5,38 +5,13 @@ ghost use Rattle.rules.specs.Fraction.{integer, whole, _/ℚ_, nearest};
 ghost use Rattle.rules.specs.Matrix.{logC3Matrix, logC4Matrix, matrixOf, IsAces};
 ghost use Rattle.rows.specs.Row.{Number, Sum};
 ghost use Rattle.matrix.specs.Joined.{joined};
-use rows::Numbers;
+
+mod entries;
+
 use rules::Aces;
 use rules::Scene;
 use rules::Setting;
 use rules::Triple;
-
-// The matrix of curve 3, over 10^6.
-const LOG_C3: [[i64; 3]; 3] = [
-    [680205, 236137, 83658],
-    [85415, 1017471, -102886],
-    [2057, -62563, 1060506],
-];
-
-// The matrix of curve 4, over 10^18, by the digits of its entries to the base 10^6: the entry 821837079380207 is 821, 837079 and 380207. The
-// lower two digits are not below 0.
-const LOG_C4_HIGH: [[i64; 3]; 3] = [
-    [750957, 144422, 104619],
-    [821, 1007397, -8220],
-    [-500, -855, 1001354],
-];
-
-const LOG_C4_MIDDLE: [[i64; 3]; 3] = [
-    [362824, 786709, 850465],
-    [837079, 584885, 578035],
-    [47856, 822768, 129374],
-];
-
-const LOG_C4_LOW: [[i64; 3]; 3] = [
-    [734131, 757084, 508965],
-    [380207, 3194, 616417],
-    [466529, 563029, 970370],
-];
 
 // A row product over 10^6, rounded once.
 fn over_million(p: i64) -> i64
@@ -58,46 +33,37 @@ fn over_digits(l: i64, m: i64, h: i64) -> i64
     whole::floor_million(h + second + 500000)
 }
 
-fn aces_c3(x: i64, y: i64, z: i64) -> Numbers
-    requires { ⌜ Number x ⌝ }
-    requires { ⌜ Number y ⌝ }
-    requires { ⌜ Number z ⌝ }
-    ensures { λ r. ⌜ IsAces logC3Matrix x y z (r .red) (r .green) (r .blue) ⌝ }
+// The ACES numbers of three scene numbers, by the matrix of curve 3 and by that of curve 4.
+fn aces_c3(x: Scene, y: Scene, z: Scene) -> Triple
+    requires { ⌜ Number (x .0) ⌝ }
+    requires { ⌜ Number (y .0) ⌝ }
+    requires { ⌜ Number (z .0) ⌝ }
+    ensures { λ r. ⌜ IsAces logC3Matrix (x .0) (y .0) (z .0) (r .red .0) (r .green .0) (r .blue .0) ⌝ }
 {
-    let p = rows::products(LOG_C3, x, y, z);
-    Numbers {
-        red: over_million(p.red),
-        green: over_million(p.green),
-        blue: over_million(p.blue),
+    let p = rows::products(entries::LOG_C3, x.0, y.0, z.0);
+    Triple {
+        red: Aces(over_million(p.red)),
+        green: Aces(over_million(p.green)),
+        blue: Aces(over_million(p.blue)),
     }
 }
 
-fn aces_c4(x: i64, y: i64, z: i64) -> Numbers
-    requires { ⌜ Number x ⌝ }
-    requires { ⌜ Number y ⌝ }
-    requires { ⌜ Number z ⌝ }
-    ensures { λ r. ⌜ IsAces logC4Matrix x y z (r .red) (r .green) (r .blue) ⌝ }
+fn aces_c4(x: Scene, y: Scene, z: Scene) -> Triple
+    requires { ⌜ Number (x .0) ⌝ }
+    requires { ⌜ Number (y .0) ⌝ }
+    requires { ⌜ Number (z .0) ⌝ }
+    ensures { λ r. ⌜ IsAces logC4Matrix (x .0) (y .0) (z .0) (r .red .0) (r .green .0) (r .blue .0) ⌝ }
 {
-    let l = rows::products(LOG_C4_LOW, x, y, z);
-    let m = rows::products(LOG_C4_MIDDLE, x, y, z);
-    let h = rows::products(LOG_C4_HIGH, x, y, z);
-    Numbers {
-        red: over_digits(l.red, m.red, h.red),
-        green: over_digits(l.green, m.green, h.green),
-        blue: over_digits(l.blue, m.blue, h.blue),
-    }
-}
-
-fn aces_of(s: Setting, x: i64, y: i64, z: i64) -> Numbers
-    requires { ⌜ Number x ⌝ }
-    requires { ⌜ Number y ⌝ }
-    requires { ⌜ Number z ⌝ }
-    ensures { λ r. ⌜ IsAces (matrixOf s) x y z (r .red) (r .green) (r .blue) ⌝ }
-{
-    if s.curve == 3 {
-        aces_c3(x, y, z)
-    } else {
-        aces_c4(x, y, z)
+    let red = x.0;
+    let green = y.0;
+    let blue = z.0;
+    let l = rows::products(entries::LOG_C4_LOW, red, green, blue);
+    let m = rows::products(entries::LOG_C4_MIDDLE, red, green, blue);
+    let h = rows::products(entries::LOG_C4_HIGH, red, green, blue);
+    Triple {
+        red: Aces(over_digits(l.red, m.red, h.red)),
+        green: Aces(over_digits(l.green, m.green, h.green)),
+        blue: Aces(over_digits(l.blue, m.blue, h.blue)),
     }
 }
 
@@ -108,10 +74,9 @@ pub fn aces(s: Setting, x: Scene, y: Scene, z: Scene) -> Triple
     requires { ⌜ Number (z .0) ⌝ }
     ensures { λ r. ⌜ IsAces (matrixOf s) (x .0) (y .0) (z .0) (r .red .0) (r .green .0) (r .blue .0) ⌝ }
 {
-    let r = aces_of(s, x.0, y.0, z.0);
-    Triple {
-        red: Aces(r.red),
-        green: Aces(r.green),
-        blue: Aces(r.blue),
+    if s.curve == 3 {
+        aces_c3(x, y, z)
+    } else {
+        aces_c4(x, y, z)
     }
 }

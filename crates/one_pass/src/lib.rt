@@ -35,7 +35,7 @@ fn convert_record(s: Setting, d: Decoder, t: &[u64; 128], r: &[u8], out: &mut [u
     match wayback::find(s, d, t, records::triple_in(r)) {
         Found::Nothing => Check::Refused(Refusal::NoPixel),
         Found::Pixel(p) => {
-            records::put_codes(out, s, p.red.0, p.green.0, p.blue.0);
+            records::put_pixel(out, s, p);
             Check::Passed
         }
     }

@@ -1,13 +1,17 @@
 -- The bytes of a record, part by part: the setting in four bytes, and three channels of n bytes each.
 -- Assumes nothing.
-use mathlib.Core.Path.{_≡_, refl, ap₂, _∙_}
+use mathlib.Core.Path.{_≡_, refl, ap, ap₂, _∙_}
 use mathlib.Core.List.{List, [], _∷_, _++_}
 use Prim.Native.Nat.{ℕ, _+_, _/_, _%_, _<_}
 use native.Mathlib.Nat.{le-of-eq}
 use native.Mathlib.Omega.{arith}
+use lib.IntN.{ℤ}
 use lib.ListN.{length, length-append}
+use mir.Syntax.{w64}
+use mir.Val.{SFits}
+use Rattle.whole.proofs.Words.{readBack, read-back}
 use Rattle.rules.specs.declared.Setting.{Setting}
-use Rattle.rules.specs.Record.{digits, bytesOf, Channels, recordOf}
+use Rattle.rules.specs.Record.{digits, bytesOf, toBits, Channels, recordOf}
 use Rattle.rules.proofs.Records.{length-digits, length-setting, record-parts}
 use Rattle.numbers.proofs.Stretch.{pasted, onward, emptied}
 
@@ -41,3 +45,10 @@ module _ (n : ℕ) (s : Setting) (c : Channels) (out : List ℕ) where
       (onward 0 4 [] out refl refl e) f) g) h
       ∙ emptied (((setting ++ digits n (c .red)) ++ digits n (c .green)) ++ digits n (c .blue)) out (4 + n + n + n) (le-of-eq l)
       ∙ record-parts n s c
+
+-- the channels of three signed numbers, and a record of numbers that fit words, as they are read
+abbrev pub numbersOf : (x y z : ℤ) → Channels
+numbersOf x y z = record { red = toBits 8 x; green = toBits 8 y; blue = toBits 8 z }
+
+pub numbers-read : (s : Setting) {x y z : ℤ} → SFits w64 x → SFits w64 y → SFits w64 z → recordOf 8 s (numbersOf (readBack x) (readBack y) (readBack z)) ≡ recordOf 8 s (numbersOf x y z)
+numbers-read s f g h = ap (recordOf 8 s) (λ i. numbersOf (read-back f i) (read-back g i) (read-back h i))

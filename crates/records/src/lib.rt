@@ -4,10 +4,11 @@ ghost use mathlib.Core.List.{[], _∷_};
 ghost use Prim.Native.Nat.{_<_};
 ghost use lib.ListN.{length};
 ghost use Rattle.rules.specs.Record.{bytesOf, settingOf, toBits, recordOf};
-ghost use Rattle.rules.specs.Contents.{pixelIn, tripleIn};
+ghost use Rattle.rules.specs.Contents.{pixelIn, pixelRecord, tripleIn, acesRecord};
 use rules::Aces;
 use rules::Code;
 use rules::Pixel;
+use rules::Scene;
 use rules::Setting;
 use rules::Triple;
 
@@ -58,19 +59,19 @@ pub fn triple_in(r: &[u8]) -> Triple
     }
 }
 
-// A record with codes: each channel in its own stretch.
-pub fn put_codes(out: &mut [u8], s: Setting, red: u16, green: u16, blue: u16)
+// A pixel record: the setting and each code in its own stretch.
+pub fn put_pixel(out: &mut [u8], s: Setting, p: Pixel)
     requires { ⌜ length (now out) ≡ 10 ⌝ }
-    ensures { λ _. ⌜ now (out .exit) ≡ recordOf 2 s (record { red = red; green = green; blue = blue }) ⌝ }
+    ensures { λ _. ⌜ now (out .exit) ≡ pixelRecord s p ⌝ }
 {
     put_setting(&mut out[0..4], s);
-    numbers::put_word(&mut out[4..6], red);
-    numbers::put_word(&mut out[6..8], green);
-    numbers::put_word(&mut out[8..10], blue);
+    numbers::put_word(&mut out[4..6], p.red.0);
+    numbers::put_word(&mut out[6..8], p.green.0);
+    numbers::put_word(&mut out[8..10], p.blue.0);
 }
 
-// A record with signed numbers.
-pub fn put_numbers(out: &mut [u8], s: Setting, red: i64, green: i64, blue: i64)
+// A record with three signed numbers, whatever they stand for.
+fn put_numbers(out: &mut [u8], s: Setting, red: i64, green: i64, blue: i64)
     requires { ⌜ length (now out) ≡ 28 ⌝ }
     ensures { λ _. ⌜ now (out .exit) ≡ recordOf 8 s (record { red = toBits 8 red; green = toBits 8 green; blue = toBits 8 blue }) ⌝ }
 {
@@ -78,4 +79,20 @@ pub fn put_numbers(out: &mut [u8], s: Setting, red: i64, green: i64, blue: i64)
     numbers::put_long(&mut out[4..12], red);
     numbers::put_long(&mut out[12..20], green);
     numbers::put_long(&mut out[20..28], blue);
+}
+
+// A scene record.
+pub fn put_scene(out: &mut [u8], s: Setting, red: Scene, green: Scene, blue: Scene)
+    requires { ⌜ length (now out) ≡ 28 ⌝ }
+    ensures { λ _. ⌜ now (out .exit) ≡ recordOf 8 s (record { red = toBits 8 (red .0); green = toBits 8 (green .0); blue = toBits 8 (blue .0) }) ⌝ }
+{
+    put_numbers(out, s, red.0, green.0, blue.0);
+}
+
+// An ACES record.
+pub fn put_aces(out: &mut [u8], s: Setting, a: Triple)
+    requires { ⌜ length (now out) ≡ 28 ⌝ }
+    ensures { λ _. ⌜ now (out .exit) ≡ acesRecord s a ⌝ }
+{
+    put_numbers(out, s, a.red.0, a.green.0, a.blue.0);
 }

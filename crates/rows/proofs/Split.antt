@@ -4,14 +4,13 @@ use mathlib.Core.Path.{_≡_, _∙_}
 use Prim.Native.Nat.{ℕ}
 use native.Mathlib.Omega.{arith}
 use lib.IntN.{ℤ, pos, _+ℤ_, _*ℤ_}
-use lib.Signed.{shrZ}
 use Rattle.whole.proofs.Reflect.{at, add, sub, mul, eqZ}
 use Rattle.rows.specs.Digits.{upper, lower}
 
 -- an entry times a number, by its two parts
 parts : (b : ℕ) (c x : ℤ) → pos b *ℤ (upper b c *ℤ x) +ℤ lower b c *ℤ x ≡ c *ℤ x
 parts b c x =
-    eqZ (add (mul (at (pos b)) (mul (at (shrZ c b)) (at x))) (mul (sub (at c) (mul (at (pos b)) (at (shrZ c b)))) (at x))) (mul (at c) (at x)) (omega arith)
+    eqZ (add (mul (at (pos b)) (mul (at (upper b c)) (at x))) (mul (sub (at c) (mul (at (pos b)) (at (upper b c)))) (at x))) (mul (at c) (at x)) (omega arith)
 
 gathered : (b h₀ h₁ h₂ l₀ l₁ l₂ : ℤ) → b *ℤ (h₀ +ℤ h₁ +ℤ h₂) +ℤ (l₀ +ℤ l₁ +ℤ l₂) ≡ (b *ℤ h₀ +ℤ l₀) +ℤ (b *ℤ h₁ +ℤ l₁) +ℤ (b *ℤ h₂ +ℤ l₂)
 gathered b h₀ h₁ h₂ l₀ l₁ l₂ =

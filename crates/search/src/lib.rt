@@ -8,6 +8,7 @@ mod guess;
 mod lines;
 
 use curve::decoder::Decoder;
+use rules::Code;
 use rules::Setting;
 
 fn least(a: u64, b: u64) -> u64
@@ -57,15 +58,16 @@ fn search(d: Decoder, t: &[u64; 128], top: u64, y: u64, first: u64) -> u64
 
 // The same, where the code guessed is tried first: numbers of codes are 28 apart or more, so what is at most 13 from the number of a code has
 // that code.
-pub fn find(s: Setting, d: Decoder, t: &[u64; 128], top: u64, y: u64) -> u64
-    requires { ⌜ Rising d (now t) top ⌝ }
+pub fn find(s: Setting, d: Decoder, t: &[u64; 128], top: Code, y: u64) -> Code
+    requires { ⌜ Rising d (now t) (top .0) ⌝ }
     requires { ⌜ y < 2 ^ 62 ⌝ }
-    ensures { λ r. ⌜ Found (rawBy d (now (t .entry))) top y r ⌝ }
+    ensures { λ r. ⌜ Found (rawBy d (now (t .entry))) (top .0) y (r .0) ⌝ }
 {
-    let first = least(guess::guess(s, d, top, y), top);
+    let last = top.0 as u64;
+    let first = least(guess::guess(s, d, last, y), last);
     let number = d.raw(t, first);
     if number <= y + 13 && y <= number + 13 {
-        return first;
+        return Code(first as u16);
     }
-    search(d, t, top, y, first)
+    Code(search(d, t, last, y, first) as u16)
 }

@@ -49,8 +49,8 @@ find-requires c κs = (
 
 returns-2 : tie.Need-returns-2
 returns-2 c =
-    code-is (c .before .before .before .before .args .s) (c .before .before .before .before .pre .0 .valid) (c .before .before .before .before .args .x .0) (c .find .result)
-    (found-within _ _ (c .before .before .before .before .args .x .0) _ (c .find .result)
+    code-is (c .before .before .before .before .args .s) (c .before .before .before .before .pre .0 .valid) (c .before .before .before .before .args .x .0) (c .find .result .0)
+    (found-within _ _ (c .before .before .before .before .args .x .0) _ (c .find .result .0)
     (shifted.shifted (c .before .before .before .before .args .x .0) (fits (c .before .before .before)) (above (c .before .before)) (high (c .before .before)))
     (rw (c .before .before .before .before .pre .0 .decoder, c .before .before .before .before .pre .0 .table, c .before .top-code .ensures) at (c .find .ensures)))
 
@@ -61,9 +61,7 @@ code-of-spec =
     (λ c. search needs)
     returns
     (λ c κs. search needs)
-    (λ c. search needs)
     add-find
     cast-find
     find-requires
-    (λ c. search needs)
     returns-2)

@@ -1,21 +1,22 @@
--- `aces` meets its contract.
+-- `aces` meets its contract: the setting's curve decides.
 -- Assumes nothing.
-use Rattle.whole.proofs.Words.{read-back}
-use Rattle.rows.proofs.Sizes.{number-fits}
+use borrow.Author.Tests.{ne-eqb}
 use Rattle.matrix.proofs.aces.Statement.{statement}
 use Rattle.matrix.proofs.aces.Tie as tie
 
-aces-of-requires : tie.Need-aces-of-requires
-aces-of-requires c κs =
-    let s = c .before .before .before in
-    rw (read-back (number-fits (s .pre .0)), read-back (number-fits (s .pre .1 .0)), read-back (number-fits (s .pre .1 .1))) (s .pre)
+aces-c3-requires : tie.Need-aces-c3-requires
+aces-c3-requires c κs = c .before .before .pre
+
+aces-c4-requires : tie.Need-aces-c4-requires
+aces-c4-requires c κs = c .before .before .pre
 
 returns : tie.Need-returns
-returns c =
-    let r = c .before .before .before in
-    let s = r .before .before .before .before in
-    rw (read-back {z = r .aces-of .result .red} (record { sfits = r .aces-of .ok .1 .1 .0 .1 }), read-back {z = r .aces-of .result .green} (record { sfits = r .aces-of .ok .1 .1 .1 .0 .1 }), read-back {z = r .aces-of .result .blue} (record { sfits = r .aces-of .ok .1 .1 .1 .1 .0 .1 }))
-    (rw (read-back (number-fits (s .pre .0)), read-back (number-fits (s .pre .1 .0)), read-back (number-fits (s .pre .1 .1))) at (r .aces-of .ensures))
+returns c = rw (c .before .if1 .taken) (c .aces-c3 .ensures)
+
+returns-2 : tie.Need-returns-2
+returns-2 c =
+    let s = c .before .before .before in
+    rw (ne-eqb (s .args .s .curve) 3 (c .before .if1 .left)) (c .aces-c4 .ensures)
 
 pub aces-spec : {M : Type 1} → statement M
-aces-spec = tie.close (tie.spec aces-of-requires returns)
+aces-spec = tie.close (tie.spec aces-c3-requires aces-c4-requires returns returns-2)

@@ -4,7 +4,7 @@ use mathlib.Core.Path.{_∙_}
 use Rattle.whole.proofs.Words.{read-back}
 use Rattle.rules.specs.Matrix.{logC3Matrix, acesNumber}
 use Rattle.rows.specs.Row.{SmallRows}
-use Rattle.rows.proofs.Sizes.{Read, read-products, rows-small}
+use Rattle.rows.proofs.Sizes.{Read, read-products, rows-small, number-fits}
 use Rattle.matrix.proofs.aces_c3.Statement.{statement}
 use Rattle.matrix.proofs.aces_c3.Tie as tie
 
@@ -13,13 +13,14 @@ small = rows-small (logC3Matrix .rows) tt tt tt
 
 products-requires : tie.Need-products-requires
 products-requires c κs =
-    rw (read-back (c .fits .x), read-back (c .fits .y), read-back (c .fits .z)) (small, c .pre)
+    let s = c .before .before .before in
+    rw (read-back (number-fits (s .pre .0)), read-back (number-fits (s .pre .1 .0)), read-back (number-fits (s .pre .1 .1))) (small, s .pre)
 
-read : (c : tie.After-products) → let a = c .before .args in Read (logC3Matrix .rows) (a .x) (a .y) (a .z) (c .products .result .red) (c .products .result .green) (c .products .result .blue)
+read : (c : tie.After-products) → let a = c .before .before .before .before .args in Read (logC3Matrix .rows) (a .x .0) (a .y .0) (a .z .0) (c .products .result .red) (c .products .result .green) (c .products .result .blue)
 read c =
-    let s = c .before in
-    read-products (logC3Matrix .rows) (s .args .x) (s .args .y) (s .args .z) small (s .pre .0) (s .pre .1 .0) (s .pre .1 .1)
-    (rw (read-back (s .fits .x), read-back (s .fits .y), read-back (s .fits .z)) at (c .products .ensures))
+    let s = c .before .before .before .before in
+    read-products (logC3Matrix .rows) (s .args .x .0) (s .args .y .0) (s .args .z .0) small (s .pre .0) (s .pre .1 .0) (s .pre .1 .1)
+    (rw (read-back (number-fits (s .pre .0)), read-back (number-fits (s .pre .1 .0)), read-back (number-fits (s .pre .1 .1))) at (c .products .ensures))
 
 over-million-requires : tie.Need-over-million-requires
 over-million-requires c κs = let r = read (c .before) in rw (r .red) (r .red-sum)

@@ -8,7 +8,7 @@ use Rattle.rules.specs.Fraction.{integer, whole, _/ℚ_, nearest}
 use Rattle.rules.specs.Matrix.{logC4Matrix, entry, acesNumber}
 use Rattle.rows.specs.Row.{SmallRows}
 use Rattle.rows.specs.Digits.{lower, upper}
-use Rattle.rows.proofs.Sizes.{Read, read-products, rows-small}
+use Rattle.rows.proofs.Sizes.{Read, read-products, rows-small, number-fits}
 use Rattle.matrix.proofs.Split.{three-digits}
 use Rattle.matrix.proofs.aces_c4.Statement.{statement}
 use Rattle.matrix.proofs.aces_c4.Tie as tie
@@ -33,33 +33,33 @@ high-small : SmallRows highs
 high-small = rows-small highs tt tt tt
 
 products-requires : tie.Need-products-requires
-products-requires c κs = rw (read-back (c .fits .x), read-back (c .fits .y), read-back (c .fits .z)) (low-small, c .pre)
+products-requires c κs = let s = c .before .before .before in rw (read-back (number-fits (s .pre .0)), read-back (number-fits (s .pre .1 .0)), read-back (number-fits (s .pre .1 .1))) (low-small, s .pre)
 
 products-requires-2 : tie.Need-products-requires-2
-products-requires-2 c κs = let s = c .before in rw (read-back (s .fits .x), read-back (s .fits .y), read-back (s .fits .z)) (middle-small, s .pre)
+products-requires-2 c κs = let s = c .before .before .before .before in rw (read-back (number-fits (s .pre .0)), read-back (number-fits (s .pre .1 .0)), read-back (number-fits (s .pre .1 .1))) (middle-small, s .pre)
 
 products-requires-3 : tie.Need-products-requires-3
-products-requires-3 c κs = let s = c .before .before in rw (read-back (s .fits .x), read-back (s .fits .y), read-back (s .fits .z)) (high-small, s .pre)
+products-requires-3 c κs = let s = c .before .before .before .before .before in rw (read-back (number-fits (s .pre .0)), read-back (number-fits (s .pre .1 .0)), read-back (number-fits (s .pre .1 .1))) (high-small, s .pre)
 
 -- the products, as they are read
 module _ (c : tie.After-products3) where
   abbrev s : tie.Start
-  s = c .before .before .before
+  s = c .before .before .before .before .before .before
 
-  low : let a = c .before .before .before .args in let r = c .before .before .products .result in Read lows (a .x) (a .y) (a .z) (r .red) (r .green) (r .blue)
+  low : let a = c .before .before .before .before .before .before .args in let r = c .before .before .products .result in Read lows (a .x .0) (a .y .0) (a .z .0) (r .red) (r .green) (r .blue)
   low =
-      read-products lows (s .args .x) (s .args .y) (s .args .z) low-small (s .pre .0) (s .pre .1 .0) (s .pre .1 .1)
-      (rw (read-back (s .fits .x), read-back (s .fits .y), read-back (s .fits .z)) at (c .before .before .products .ensures))
+      read-products lows (s .args .x .0) (s .args .y .0) (s .args .z .0) low-small (s .pre .0) (s .pre .1 .0) (s .pre .1 .1)
+      (rw (read-back (number-fits (s .pre .0)), read-back (number-fits (s .pre .1 .0)), read-back (number-fits (s .pre .1 .1))) at (c .before .before .products .ensures))
 
-  middle : let a = c .before .before .before .args in let r = c .before .products2 .result in Read middles (a .x) (a .y) (a .z) (r .red) (r .green) (r .blue)
+  middle : let a = c .before .before .before .before .before .before .args in let r = c .before .products2 .result in Read middles (a .x .0) (a .y .0) (a .z .0) (r .red) (r .green) (r .blue)
   middle =
-      read-products middles (s .args .x) (s .args .y) (s .args .z) middle-small (s .pre .0) (s .pre .1 .0) (s .pre .1 .1)
-      (rw (read-back (s .fits .x), read-back (s .fits .y), read-back (s .fits .z)) at (c .before .products2 .ensures))
+      read-products middles (s .args .x .0) (s .args .y .0) (s .args .z .0) middle-small (s .pre .0) (s .pre .1 .0) (s .pre .1 .1)
+      (rw (read-back (number-fits (s .pre .0)), read-back (number-fits (s .pre .1 .0)), read-back (number-fits (s .pre .1 .1))) at (c .before .products2 .ensures))
 
-  high : let a = c .before .before .before .args in let r = c .products3 .result in Read highs (a .x) (a .y) (a .z) (r .red) (r .green) (r .blue)
+  high : let a = c .before .before .before .before .before .before .args in let r = c .products3 .result in Read highs (a .x .0) (a .y .0) (a .z .0) (r .red) (r .green) (r .blue)
   high =
-      read-products highs (s .args .x) (s .args .y) (s .args .z) high-small (s .pre .0) (s .pre .1 .0) (s .pre .1 .1)
-      (rw (read-back (s .fits .x), read-back (s .fits .y), read-back (s .fits .z)) at (c .products3 .ensures))
+      read-products highs (s .args .x .0) (s .args .y .0) (s .args .z .0) high-small (s .pre .0) (s .pre .1 .0) (s .pre .1 .1)
+      (rw (read-back (number-fits (s .pre .0)), read-back (number-fits (s .pre .1 .0)), read-back (number-fits (s .pre .1 .1))) at (c .products3 .ensures))
 
 over-digits-requires : tie.Need-over-digits-requires
 over-digits-requires c κs =
@@ -86,11 +86,11 @@ returns c =
     let g = b .before .before .before .before in
     let r = g .before .before .before .before in
     let k = r .before .before .before .before in
-    let a = k .before .before .before .args in
+    let a = k .before .before .before .before .before .before .args in
     record {
-      red-is = read-back (record { sfits = r .over-digits .ok }) ∙ (rw (low k .red, middle k .red, high k .red) at (r .over-digits .ensures)) ∙ ap over (three-digits (entry logC4Matrix 0 0) (entry logC4Matrix 0 1) (entry logC4Matrix 0 2) (a .x) (a .y) (a .z));
-      green-is = read-back (record { sfits = g .over-digits2 .ok }) ∙ (rw (low k .green, middle k .green, high k .green) at (g .over-digits2 .ensures)) ∙ ap over (three-digits (entry logC4Matrix 1 0) (entry logC4Matrix 1 1) (entry logC4Matrix 1 2) (a .x) (a .y) (a .z));
-      blue-is = read-back (record { sfits = b .over-digits3 .ok }) ∙ (rw (low k .blue, middle k .blue, high k .blue) at (b .over-digits3 .ensures)) ∙ ap over (three-digits (entry logC4Matrix 2 0) (entry logC4Matrix 2 1) (entry logC4Matrix 2 2) (a .x) (a .y) (a .z));
+      red-is = read-back (record { sfits = r .over-digits .ok }) ∙ (rw (low k .red, middle k .red, high k .red) at (r .over-digits .ensures)) ∙ ap over (three-digits (entry logC4Matrix 0 0) (entry logC4Matrix 0 1) (entry logC4Matrix 0 2) (a .x .0) (a .y .0) (a .z .0));
+      green-is = read-back (record { sfits = g .over-digits2 .ok }) ∙ (rw (low k .green, middle k .green, high k .green) at (g .over-digits2 .ensures)) ∙ ap over (three-digits (entry logC4Matrix 1 0) (entry logC4Matrix 1 1) (entry logC4Matrix 1 2) (a .x .0) (a .y .0) (a .z .0));
+      blue-is = read-back (record { sfits = b .over-digits3 .ok }) ∙ (rw (low k .blue, middle k .blue, high k .blue) at (b .over-digits3 .ensures)) ∙ ap over (three-digits (entry logC4Matrix 2 0) (entry logC4Matrix 2 1) (entry logC4Matrix 2 2) (a .x .0) (a .y .0) (a .z .0));
     }
 
 pub aces-c4-spec : {M : Type 1} → statement M

@@ -15,7 +15,7 @@ returns : tie.Need-returns
 returns c = let e = found (c .before .before) ∙ c .enum-told .given .1 in (rw e, rw e)
 
 returns-2 : tie.Need-returns-2
-returns-2 c = let e = found (c .before .before .before .before .before .before .before) ∙ c .before .before .before .before .before .p .given .1 in (rw e, rw e (c .before .before .put-codes .ensures))
+returns-2 c = let e = found (c .before .before .before .before .before .before .before) ∙ c .before .before .before .before .before .p .given .1 in (rw e, rw e (c .before .before .put-pixel .ensures))
 
 pub convert-record-spec : {M : Type 1} → statement M
 convert-record-spec =

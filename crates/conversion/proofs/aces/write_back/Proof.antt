@@ -20,7 +20,7 @@ pixel-of-requires c κs =
 returns : tie.Need-returns
 returns c =
     let s = c .before .before .before .before .before .before .before .before in
-    c .before .before .put-codes .ensures
+    c .before .before .put-pixel .ensures
     ∙ ap (λ (f : Found). pixelRecord (s .args .s) (pixelFound f)) (c .before .before .before .before .pixel-of .ensures)
     ∙ ap (λ (a : Triple). pixelRecord (s .args .s) (pixelFound (pixelFor (s .args .s) a))) (c .before .before .before .before .before .triple-in .ensures)
 

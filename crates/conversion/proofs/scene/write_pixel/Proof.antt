@@ -26,7 +26,7 @@ returns : tie.Need-returns
 returns c =
     let b = c .before .before .before .before in
     let s = b .before .before .before .before .before in
-    c .before .before .put-codes .ensures
+    c .before .before .put-pixel .ensures
     ∙ ap (recordOf 2 (s .args .s)) (λ i. record { red = b .before .before .code-at .ensures i; green = b .before .code-at2 .ensures i; blue = b .code-at3 .ensures i })
 
 pub write-pixel-spec : {M : Type 1} → statement M

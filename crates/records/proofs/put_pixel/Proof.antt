@@ -1,10 +1,10 @@
--- `put_codes` meets its contract: each stretch is written behind the one before.
+-- `put_pixel` meets its contract: each stretch is written behind the one before.
 -- Assumes nothing.
 use borrow.Author.Needs.{needs}
 use denote.Ref.{now}
 use Rattle.records.proofs.Parts.{four-parts}
-use Rattle.records.proofs.put_codes.Statement.{statement}
-use Rattle.records.proofs.put_codes.Tie as tie
+use Rattle.records.proofs.put_pixel.Statement.{statement}
+use Rattle.records.proofs.put_pixel.Tie as tie
 
 returns : tie.Need-returns
 returns c =
@@ -15,7 +15,7 @@ returns c =
     let s = p .before .before .before in
     four-parts 2 (s .args .s) _ (now (s .args .out)) (s .pre) (p .put-setting .ensures) (r .put-word .ensures) (g .put-word2 .ensures) (b .put-word3 .ensures)
 
-pub put-codes-spec : {M : Type 1} → statement M
-put-codes-spec =
+pub put-pixel-spec : {M : Type 1} → statement M
+put-pixel-spec =
     tie.close
     (tie.spec (λ c. search needs) (λ c. search needs) (λ c. search needs) (λ c κs. search needs) (λ c. search needs) (λ c. search needs) (λ c. search needs) (λ c κs. search needs) (λ c. search needs) (λ c. search needs) (λ c. search needs) (λ c κs. search needs) (λ c. search needs) (λ c. search needs) (λ c. search needs) (λ c κs. search needs) (λ c. search needs) returns)
