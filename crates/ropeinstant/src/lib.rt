@@ -2,6 +2,7 @@
 // include/ropeinstant.h declares them.
 ghost use mathlib.Core.Path.{_≡_};
 ghost use Rattle.conversion.specs.Conversions.{pixelToScene, sceneToPixel, pixelToAces, acesToPixel};
+ghost use Rattle.strip.specs.Lent.{LentBytes};
 ghost use Rattle.ropeinstant.specs.Given.{number, place, Gives};
 use rules::Answer;
 
@@ -26,6 +27,7 @@ fn give(a: Answer, at: &mut u64) -> u32
 #[no_mangle]
 pub extern "C" fn ropeinstant_pixel_to_scene(input: &[u8], output: &mut [u8], at: &mut u64) -> u32
     ensures { λ n. ⌜ Gives pixelToScene (now (input .entry)) (now (output .entry)) n (now (at .exit)) (now (output .exit)) ⌝ }
+    ensures { λ _. ⌜ LentBytes (now (input .entry)) (now (output .entry)) (now (output .exit)) ⌝ }
 {
     give(strip::pixel_to_scene(input, output), at)
 }
@@ -34,6 +36,7 @@ pub extern "C" fn ropeinstant_pixel_to_scene(input: &[u8], output: &mut [u8], at
 #[no_mangle]
 pub extern "C" fn ropeinstant_scene_to_pixel(input: &[u8], output: &mut [u8], at: &mut u64) -> u32
     ensures { λ n. ⌜ Gives sceneToPixel (now (input .entry)) (now (output .entry)) n (now (at .exit)) (now (output .exit)) ⌝ }
+    ensures { λ _. ⌜ LentBytes (now (input .entry)) (now (output .entry)) (now (output .exit)) ⌝ }
 {
     give(strip::scene_to_pixel(input, output), at)
 }
@@ -42,6 +45,7 @@ pub extern "C" fn ropeinstant_scene_to_pixel(input: &[u8], output: &mut [u8], at
 #[no_mangle]
 pub extern "C" fn ropeinstant_pixel_to_aces(input: &[u8], output: &mut [u8], at: &mut u64) -> u32
     ensures { λ n. ⌜ Gives pixelToAces (now (input .entry)) (now (output .entry)) n (now (at .exit)) (now (output .exit)) ⌝ }
+    ensures { λ _. ⌜ LentBytes (now (input .entry)) (now (output .entry)) (now (output .exit)) ⌝ }
 {
     give(strip::pixel_to_aces(input, output), at)
 }
@@ -50,6 +54,7 @@ pub extern "C" fn ropeinstant_pixel_to_aces(input: &[u8], output: &mut [u8], at:
 #[no_mangle]
 pub extern "C" fn ropeinstant_aces_to_pixel(input: &[u8], output: &mut [u8], at: &mut u64) -> u32
     ensures { λ n. ⌜ Gives acesToPixel (now (input .entry)) (now (output .entry)) n (now (at .exit)) (now (output .exit)) ⌝ }
+    ensures { λ _. ⌜ LentBytes (now (input .entry)) (now (output .entry)) (now (output .exit)) ⌝ }
 {
     give(strip::aces_to_pixel(input, output), at)
 }
