@@ -16,7 +16,7 @@ use Rattle.rules.specs.Strip.{recordCheck}
 use Rattle.rules.proofs.Records.{FitsRecord, value-small, drop-bytes, read-setting, read-channels, write-read}
 use Rattle.rules.proofs.Settings.{both}
 use Rattle.conversion.specs.Conversions.{channelChecks, channelwise}
-use Rattle.conversion.proofs.Channels.{AllPass, all-pass}
+use Rattle.conversion.proofs.Channels.{all-pass}
 use Rattle.conversion.proofs.Good.{Good}
 
 -- ---- what is read of what was written, where each channel that passes fits
