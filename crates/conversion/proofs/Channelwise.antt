@@ -52,11 +52,7 @@ module _ (a b : ℕ) (check : Setting → ℕ → Check) (one : Setting → ℕ 
         blue = fits-at 2 (lit< tt);
       }
 
-  -- "A conversion copies the setting."
-  pub setting-copied : settingOf (channelwise a b check one .bytes r) ≡ settingOf r
-  setting-copied = read-setting b (settingOf r) written fits-record
-
-  -- and in each channel stands what is made of that channel
+  -- in each channel stands what is made of that channel
   pub channel-written : (i : ℕ) → i < 3 → channelAt b (channelwise a b check one .bytes r) i ≡ one (settingOf r) (channelAt a r i)
   channel-written i h = at i h (read-channels b (settingOf r) written fits-record)
     where
@@ -65,6 +61,10 @@ module _ (a b : ℕ) (check : Setting → ℕ → Check) (one : Setting → ℕ 
       at (suc zero) h e = ap (λ (c : Channels). c .green) e
       at (suc (suc zero)) h e = ap (λ (c : Channels). c .blue) e
       at (suc (suc (suc i))) h e = absurd (omega arith)
+
+  -- "A conversion copies the setting."
+  pub setting-copied : settingOf (channelwise a b check one .bytes r) ≡ settingOf r
+  setting-copied = read-setting b (settingOf r) written fits-record
 
 -- ---- a second conversion takes back each channel
 module _ (a b : ℕ) (check check′ : Setting → ℕ → Check) (one two : Setting → ℕ → ℕ) where
