@@ -1,5 +1,5 @@
--- Conversions channel by channel: what is read of a record that one of them wrote. And two of them, of which the second takes back each
--- channel: then it takes back each record.
+-- Conversions channel by channel: what is read of a record that one of them wrote. And two of them,
+-- of which the second takes back each channel: then it takes back each record.
 -- Assumes nothing.
 use mathlib.Core.Path.{_≡_, ap}
 use mathlib.Core.List.{List}

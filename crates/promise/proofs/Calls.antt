@@ -1,5 +1,6 @@
--- WHAT THE THEOREMS SAY OF A CALL. They speak of the answer and the output that the rules give for two strips of bytes. The contract of a
--- function on strips says that these are the call's own, and that the strips are bytes, so that nothing else is left to assume.
+-- WHAT THE THEOREMS SAY OF A CALL. They speak of the answer and the output that the rules give for
+-- two strips of bytes. The contract of a function on strips says that these are the call's own, and
+-- that the strips are bytes, so that nothing else is left to assume.
 -- Assumes nothing.
 use mathlib.Core.Path.{_≡_, refl, sym, subst}
 use mathlib.Core.List.{List}

@@ -1,5 +1,6 @@
--- DEMAND 2 OF SCENE STRIPS: for an accepted pixel strip each scene number written is a decoded number of the same channel's code, and for an
--- accepted scene strip each code written is the nearest one, within two thirds of a code. For every strip of bytes, settings mixed.
+-- DEMAND 2 OF SCENE STRIPS: for an accepted pixel strip each scene number written is a decoded
+-- number of the same channel's code, and for an accepted scene strip each code written is the
+-- nearest one, within two thirds of a code. For every strip of bytes, settings mixed.
 -- Assumes nothing.
 use mathlib.Core.Path.{_≡_, sym, ap, _∙_, subst}
 use mathlib.Core.List.{List}
@@ -77,7 +78,8 @@ scene-decoded : (s : Setting) → Valid s → (code : ℕ) → codeCheck s code 
 scene-decoded s v code e =
     record { near = subst (Decodes (scaleOf s) code) (sym (scene-read s v code e)) (decoding s v code (code-passed s code e)); same = scene-read s v code e }
 
--- PIXEL TO SCENE converts an accepted strip, and writes for each record its setting and decoded numbers of its codes, channel by channel
+-- PIXEL TO SCENE converts an accepted strip, and writes for each record its setting and decoded
+-- numbers of its codes, channel by channel
 pub pixels-decoded : (pixels output : List ℕ) (n : ℕ) → Accepted pixels n → n * 28 ≤ length output → ConvertedEach pixelToScene DecodedRecord pixels output n
 pixels-decoded pixels output n a room =
     strip-each codeBytes numberBytes codeCheck sceneBits IsDecoded scene-fits scene-decoded pixels output n (a .bytes) (a .long)
@@ -95,7 +97,8 @@ scene-passes : (r : List ℕ) → HoldsScene r → recordCheck sceneToPixel r �
 unfolding channelChecks
 scene-passes r h = rw (h .valid, h .numbers 0 (lit< tt), h .numbers 1 (lit< tt), h .numbers 2 (lit< tt))
 
--- SCENE TO PIXEL converts an accepted strip, and writes for each record its setting and the nearest codes of its numbers, channel by channel
+-- SCENE TO PIXEL converts an accepted strip, and writes for each record its setting and the nearest
+-- codes of its numbers, channel by channel
 pub scenes-encoded : (scenes output : List ℕ) (n : ℕ) → AcceptedScenes scenes n → n * 10 ≤ length output → ConvertedEach sceneToPixel EncodedRecord scenes output n
 scenes-encoded scenes output n a room =
     strip-each numberBytes codeBytes numberCheck codeBits IsEncoded code-fits code-encoded scenes output n (a .bytes) (a .long)

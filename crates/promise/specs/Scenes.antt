@@ -1,5 +1,5 @@
--- Demand 2, of what scene strips hold. Pixel to scene writes decoded numbers, scene to pixel writes the nearest codes, each in the channel
--- and with the setting of its own record.
+-- Demand 2, of what scene strips hold. Pixel to scene writes decoded numbers, scene to pixel writes
+-- the nearest codes, each in the channel and with the setting of its own record.
 -- Assumes nothing.
 use mathlib.Core.List.{List}
 use mathlib.Core.Path.{_≡_}
@@ -16,7 +16,8 @@ use Rattle.rules.specs.Record.{IsBytes, codeBytes, numberBytes, ofBits, setting
 use Rattle.rules.specs.Strip.{Conversion, recordAt, answerOf, outputAfter}
 use Rattle.curve.specs.Decoded.{decoded}
 
--- a scene strip that encoding accepts: a whole number of records, and each holds a valid setting and three numbers that pass check 7
+-- a scene strip that encoding accepts: a whole number of records, and each holds a valid setting
+-- and three numbers that pass check 7
 pub record HoldsScene (r : List ℕ) : Type 0 where
   pub valid : Valid (settingOf r)
   pub numbers : (i : ℕ) → i < 3 → sceneCheck (ofBits numberBytes (channelAt numberBytes r i)) ≡ Passed
@@ -26,14 +27,15 @@ pub record AcceptedScenes (scenes : List ℕ) (n : ℕ) : Type 0 where
   pub long : length scenes ≡ n * 28
   pub each : (k : ℕ) → k < n → HoldsScene (recordAt 28 k scenes)
 
--- what a record r with channels of a bytes became, with channels of b bytes: "A conversion copies the setting", and each channel is R to
--- the same channel of r
+-- what a record r with channels of a bytes became, with channels of b bytes: "A conversion copies
+-- the setting", and each channel is R to the same channel of r
 pub record EachChannel (a b : ℕ) (R : Setting → (from to : ℕ) → Type 0) (r out : List ℕ) : Type 0 where
   pub setting : settingOf out ≡ settingOf r
   pub channel : (i : ℕ) → i < 3 → R (settingOf r) (channelAt a r i) (channelAt b out i)
 
--- "Each decoded channel is less than one unit (2 to the power -24) from the exact ARRI curve"; "A setting and code have one decoded number,
--- the same in every operation and channel.": it is the number that encoding compares with
+-- "Each decoded channel is less than one unit (2 to the power -24) from the exact ARRI curve"; "A
+-- setting and code have one decoded number, the same in every operation and channel.": it is the
+-- number that encoding compares with
 pub record IsDecoded (s : Setting) (code bits : ℕ) : Type 0 where
   pub near : Decodes (scaleOf s) code (ofBits numberBytes bits)
   pub same : ofBits numberBytes bits ≡ decoded s code
@@ -41,8 +43,8 @@ pub record IsDecoded (s : Setting) (code bits : ℕ) : Type 0 where
 abbrev pub DecodedRecord : (pixel scene : List ℕ) → Type 0
 DecodedRecord = EachChannel codeBytes numberBytes IsDecoded
 
--- "each accepted scene number encodes to the code with the nearest decoded number, and lies within two thirds of a code of the exact curve
--- where it isn't clipped"
+-- "each accepted scene number encodes to the code with the nearest decoded number, and lies within
+-- two thirds of a code of the exact curve where it isn't clipped"
 pub record IsEncoded (s : Setting) (bits code : ℕ) : Type 0 where
   pub nearest : IsNearest (decoded s) (topOf (s .width)) (ofBits numberBytes bits) code
   pub within : TwoThirds (scaleOf s) (topOf (s .width)) (ofBits numberBytes bits) code
