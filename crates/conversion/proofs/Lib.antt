@@ -2,3 +2,4 @@ pub mod Channels
 pub mod EveryKind
 pub mod Good
 pub mod Channelwise
+pub mod SceneBits

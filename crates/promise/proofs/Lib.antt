@@ -1,4 +1,6 @@
 pub mod Single
 pub mod Strips
 pub mod Theorems
+pub mod Scenes
+pub mod Calls
 pub mod Papers

@@ -1,1 +1,1 @@
-// The archive promise, demand 3: no code, only what its words mean (specs/Words.antt) and its theorems (proofs/Theorems.antt).
+// The archive promise, demand 3, and demand 2 of scene strips: no code, only what their words mean (specs) and their theorems (proofs).

@@ -3,6 +3,7 @@
 ghost use mathlib.Core.Path.{_≡_};
 ghost use Rattle.conversion.specs.Conversions.{pixelToScene, sceneToPixel, pixelToAces, acesToPixel};
 ghost use Rattle.rules.specs.Result.{stripResult};
+ghost use Rattle.strip.specs.Lent.{LentBytes};
 ghost use Rattle.ropeinstant.specs.Given.{place, Gives};
 use rules::Answer;
 
@@ -27,6 +28,7 @@ fn give(a: Answer, at: &mut u64) -> u32
 #[no_mangle]
 pub extern "C" fn ropeinstant_pixel_to_scene(input: &[u8], output: &mut [u8], at: &mut u64) -> u32
     ensures { λ n. ⌜ Gives pixelToScene (now (input .entry)) (now (output .entry)) n (now (at .exit)) (now (output .exit)) ⌝ }
+    ensures { λ _. ⌜ LentBytes (now (input .entry)) (now (output .entry)) (now (output .exit)) ⌝ }
 {
     give(strip::pixel_to_scene(input, output), at)
 }
@@ -35,6 +37,7 @@ pub extern "C" fn ropeinstant_pixel_to_scene(input: &[u8], output: &mut [u8], at
 #[no_mangle]
 pub extern "C" fn ropeinstant_scene_to_pixel(input: &[u8], output: &mut [u8], at: &mut u64) -> u32
     ensures { λ n. ⌜ Gives sceneToPixel (now (input .entry)) (now (output .entry)) n (now (at .exit)) (now (output .exit)) ⌝ }
+    ensures { λ _. ⌜ LentBytes (now (input .entry)) (now (output .entry)) (now (output .exit)) ⌝ }
 {
     give(strip::scene_to_pixel(input, output), at)
 }
@@ -43,6 +46,7 @@ pub extern "C" fn ropeinstant_scene_to_pixel(input: &[u8], output: &mut [u8], at
 #[no_mangle]
 pub extern "C" fn ropeinstant_pixel_to_aces(input: &[u8], output: &mut [u8], at: &mut u64) -> u32
     ensures { λ n. ⌜ Gives pixelToAces (now (input .entry)) (now (output .entry)) n (now (at .exit)) (now (output .exit)) ⌝ }
+    ensures { λ _. ⌜ LentBytes (now (input .entry)) (now (output .entry)) (now (output .exit)) ⌝ }
 {
     give(strip::pixel_to_aces(input, output), at)
 }
@@ -51,6 +55,7 @@ pub extern "C" fn ropeinstant_pixel_to_aces(input: &[u8], output: &mut [u8], at:
 #[no_mangle]
 pub extern "C" fn ropeinstant_aces_to_pixel(input: &[u8], output: &mut [u8], at: &mut u64) -> u32
     ensures { λ n. ⌜ Gives acesToPixel (now (input .entry)) (now (output .entry)) n (now (at .exit)) (now (output .exit)) ⌝ }
+    ensures { λ _. ⌜ LentBytes (now (input .entry)) (now (output .entry)) (now (output .exit)) ⌝ }
 {
     give(strip::aces_to_pixel(input, output), at)
 }

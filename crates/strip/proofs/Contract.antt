@@ -6,14 +6,23 @@ use Prim.Native.Nat.{ℕ, _*_, _/_, _%_, _≤_, _<_}
 use native.Mathlib.Nat.{le-of-eq, zero-mul}
 use native.Mathlib.Omega.{arith}
 use borrow.Author.Tests.{eq-eqb, ne-eqb, le-leb, lt-leb}
-use lib.ListN.{length}
+use lib.ListN.{length, getD}
+use mir.Syntax.{w8}
+use mir.Val.{Fits}
 use Rattle.rules.specs.declared.Answer.{Answer}
 use Rattle.rules.specs.declared.Answer.the-variants.{Done, Refused}
 use Rattle.rules.specs.declared.Refusal.the-variants.{PartialRecord, ShortOutput}
 use Rattle.rules.specs.Strip.{Conversion, records, written, scan, scanOf, answerOf, outputAfter, Converts}
+use Rattle.strip.specs.Lent.{LentBytes}
 use Rattle.strip.specs.Writable.{writable}
 use Rattle.passes.proofs.FirstPass.{counted}
 
+-- ---- what owning a slice of u8 says of its elements
+pub lent-bytes : {input output after : List ℕ} → ((i : ℕ) → Fits w8 (getD input i 0)) → ((i : ℕ) → Fits w8 (getD output i 0)) → ((i : ℕ) → Fits w8 (getD after i 0))
+    → LentBytes input output after
+lent-bytes a b c = record { input-bytes = λ i. a i .fits; output-bytes = λ i. b i .fits; after-bytes = λ i. c i .fits }
+
+-- ---- the answer and the output
 module _ (c : Conversion) (input output : List ℕ) where
   pub not-whole : (length input % c .from ≡ 0 → ⊥) → Converts c input output (Refused PartialRecord 0) output
   unfolding answerOf outputAfter

@@ -4,42 +4,33 @@
 use mathlib.Core.Path.{_≡_}
 use mathlib.Core.Logic.{_↔_}
 use mathlib.Core.List.{List, _++_}
-use Prim.Native.Nat.{ℕ, _+_, _*_, _^_, _≤_, _<_}
+use Prim.Native.Nat.{ℕ, _+_, _*_, _≤_}
 use lib.Dec.{lit<}
 use lib.ListN.{length, take, drop}
-use Rattle.whole.specs.Parts.{up, dn}
-use Rattle.whole.proofs.Words.{parts-fit}
 use Rattle.rules.specs.declared.Answer.the-variants.{Done}
 use Rattle.rules.specs.declared.Check.the-variants.{Passed}
 use Rattle.rules.specs.declared.Setting.{Setting}
 use Rattle.rules.specs.Setting.{codeCheck, Valid}
-use Rattle.rules.specs.Record.{IsBytes, toBits, ofBits, codeBytes, numberBytes, settingOf}
+use Rattle.rules.specs.Record.{IsBytes, codeBytes, numberBytes, settingOf}
 use Rattle.rules.specs.Strip.{recordCheck, answerOf, outputAfter}
-use Rattle.rules.proofs.Records.{length-record, of-to, bits-fit}
+use Rattle.rules.proofs.Records.{length-record}
 use Rattle.rules.proofs.Settings.{code-passed}
-use Rattle.curve.specs.Decoded.{decoded}
-use Rattle.curve.proofs.Fit.{decoded-fits}
 use Rattle.curve.proofs.Limit.{decoded-passes}
 use Rattle.encode.proofs.Theorems.{encode-decoded}
 use Rattle.conversion.specs.Conversions.{sceneBits, numberCheck, codeBits, pixelToScene, sceneToPixel}
 use Rattle.conversion.proofs.Good.{Good}
 use Rattle.conversion.proofs.Channelwise.{TakenBack, record-passes, record-back}
+use Rattle.conversion.proofs.SceneBits.{scene-fits, scene-read}
 use Rattle.strip.proofs.Back as back
 
 -- a code's number, in its bytes, is read back, passes, and is encoded to the code
 code-back : (s : Setting) → Valid s → (n : ℕ) → codeCheck s n ≡ Passed → TakenBack codeBytes numberBytes codeCheck numberCheck sceneBits codeBits s n
 code-back s v n e =
     record {
-      fits = bits-fit 8 (decoded s n) (below .0) (below .1);
-      passes = rw same (decoded-passes s v n (code-passed s n e));
-      returns = rw same (encode-decoded s v n (code-passed s n e));
+      fits = scene-fits s v n e;
+      passes = rw (scene-read s v n e) (decoded-passes s v n (code-passed s n e));
+      returns = rw (scene-read s v n e) (encode-decoded s v n (code-passed s n e));
     }
-  where
-    below : (2 * up (decoded s n) < 256 ^ 8) × (2 * dn (decoded s n) ≤ 256 ^ 8)
-    below = parts-fit (decoded s n) (decoded-fits s v n e)
-
-    same : ofBits 8 (toBits 8 (decoded s n)) ≡ decoded s n
-    same = of-to 8 (decoded s n) (below .0) (below .1)
 
 long : (r : List ℕ) → length (pixelToScene .bytes r) ≡ pixelToScene .to
 long r = length-record numberBytes (settingOf r) _

@@ -3,6 +3,7 @@
 ghost use mathlib.Core.Path.{_≡_};
 ghost use Rattle.rules.specs.Strip.{Converts};
 ghost use Rattle.conversion.specs.Conversions.{pixelToScene, sceneToPixel, pixelToAces, acesToPixel, conversionOf};
+ghost use Rattle.strip.specs.Lent.{LentBytes};
 ghost use Rattle.strip.specs.Writable.{writable};
 use conversion::Kind;
 use rules::Answer;
@@ -25,6 +26,7 @@ fn to_write(a: Answer) -> usize
 
 fn convert(k: Kind, input: &[u8], output: &mut [u8]) -> Answer
     ensures { λ a. ⌜ Converts (conversionOf k) (now (input .entry)) (now (output .entry)) a (now (output .exit)) ⌝ }
+    ensures { λ _. ⌜ LentBytes (now (input .entry)) (now (output .entry)) (now (output .exit)) ⌝ }
 {
     let from = conversion::size_from(k);
     let to = conversion::size_to(k);
@@ -43,6 +45,7 @@ fn convert(k: Kind, input: &[u8], output: &mut [u8]) -> Answer
 // Decoding: a strip of pixel records to one of scene records.
 pub fn pixel_to_scene(input: &[u8], output: &mut [u8]) -> Answer
     ensures { λ a. ⌜ Converts pixelToScene (now (input .entry)) (now (output .entry)) a (now (output .exit)) ⌝ }
+    ensures { λ _. ⌜ LentBytes (now (input .entry)) (now (output .entry)) (now (output .exit)) ⌝ }
 {
     convert(Kind::PixelToScene, input, output)
 }
@@ -50,6 +53,7 @@ pub fn pixel_to_scene(input: &[u8], output: &mut [u8]) -> Answer
 // Encoding: a strip of scene records to one of pixel records.
 pub fn scene_to_pixel(input: &[u8], output: &mut [u8]) -> Answer
     ensures { λ a. ⌜ Converts sceneToPixel (now (input .entry)) (now (output .entry)) a (now (output .exit)) ⌝ }
+    ensures { λ _. ⌜ LentBytes (now (input .entry)) (now (output .entry)) (now (output .exit)) ⌝ }
 {
     convert(Kind::SceneToPixel, input, output)
 }
@@ -57,6 +61,7 @@ pub fn scene_to_pixel(input: &[u8], output: &mut [u8]) -> Answer
 // A strip of pixel records to one of ACES records.
 pub fn pixel_to_aces(input: &[u8], output: &mut [u8]) -> Answer
     ensures { λ a. ⌜ Converts pixelToAces (now (input .entry)) (now (output .entry)) a (now (output .exit)) ⌝ }
+    ensures { λ _. ⌜ LentBytes (now (input .entry)) (now (output .entry)) (now (output .exit)) ⌝ }
 {
     convert(Kind::PixelToAces, input, output)
 }
@@ -65,6 +70,7 @@ pub fn pixel_to_aces(input: &[u8], output: &mut [u8]) -> Answer
 // buffer is made.
 pub fn aces_to_pixel(input: &[u8], output: &mut [u8]) -> Answer
     ensures { λ a. ⌜ Converts acesToPixel (now (input .entry)) (now (output .entry)) a (now (output .exit)) ⌝ }
+    ensures { λ _. ⌜ LentBytes (now (input .entry)) (now (output .entry)) (now (output .exit)) ⌝ }
 {
     let n = input.len() / one_pass::FROM;
     if FEW <= n

@@ -6,7 +6,9 @@ use Rattle.ropeinstant.proofs.ropeinstant_aces_to_pixel.Statement.{stat
 use Rattle.ropeinstant.proofs.ropeinstant_aces_to_pixel.Tie as tie
 
 returns : tie.Need-returns
-returns c = answered (c .before .before .before .before .aces-to-pixel .ensures) (c .give .ensures .0) (c .give .ensures .1)
+returns c =
+    let converted = c .before .before .before .before .aces-to-pixel .ensures in
+    (answered (converted .0) (c .give .ensures .0) (c .give .ensures .1), converted .1)
 
 pub ropeinstant-aces-to-pixel-spec : {M : Type 1} → statement M
 ropeinstant-aces-to-pixel-spec =

@@ -6,7 +6,9 @@ use Rattle.ropeinstant.proofs.ropeinstant_pixel_to_aces.Statement.{stat
 use Rattle.ropeinstant.proofs.ropeinstant_pixel_to_aces.Tie as tie
 
 returns : tie.Need-returns
-returns c = answered (c .before .before .before .before .pixel-to-aces .ensures) (c .give .ensures .0) (c .give .ensures .1)
+returns c =
+    let converted = c .before .before .before .before .pixel-to-aces .ensures in
+    (answered (converted .0) (c .give .ensures .0) (c .give .ensures .1), converted .1)
 
 pub ropeinstant-pixel-to-aces-spec : {M : Type 1} → statement M
 ropeinstant-pixel-to-aces-spec =

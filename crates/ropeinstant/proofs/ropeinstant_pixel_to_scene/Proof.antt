@@ -6,7 +6,9 @@ use Rattle.ropeinstant.proofs.ropeinstant_pixel_to_scene.Statement.{sta
 use Rattle.ropeinstant.proofs.ropeinstant_pixel_to_scene.Tie as tie
 
 returns : tie.Need-returns
-returns c = answered (c .before .before .before .before .pixel-to-scene .ensures) (c .give .ensures .0) (c .give .ensures .1)
+returns c =
+    let converted = c .before .before .before .before .pixel-to-scene .ensures in
+    (answered (converted .0) (c .give .ensures .0) (c .give .ensures .1), converted .1)
 
 pub ropeinstant-pixel-to-scene-spec : {M : Type 1} → statement M
 ropeinstant-pixel-to-scene-spec =

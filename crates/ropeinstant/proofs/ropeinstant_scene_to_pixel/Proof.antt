@@ -6,7 +6,9 @@ use Rattle.ropeinstant.proofs.ropeinstant_scene_to_pixel.Statement.{sta
 use Rattle.ropeinstant.proofs.ropeinstant_scene_to_pixel.Tie as tie
 
 returns : tie.Need-returns
-returns c = answered (c .before .before .before .before .scene-to-pixel .ensures) (c .give .ensures .0) (c .give .ensures .1)
+returns c =
+    let converted = c .before .before .before .before .scene-to-pixel .ensures in
+    (answered (converted .0) (c .give .ensures .0) (c .give .ensures .1), converted .1)
 
 pub ropeinstant-scene-to-pixel-spec : {M : Type 1} → statement M
 ropeinstant-scene-to-pixel-spec =

@@ -6,8 +6,9 @@ use denote.Ref.{now}
 use lib.ListN.{length}
 use Prim.Native.Nat.{ℕ, _*_, _/_, _%_, _≤_, _<_}
 use Rattle.rules.specs.Strip.{scanOf}
-use Rattle.strip.proofs.Contract.{not-whole, too-short, to-write, finished}
+use Rattle.strip.proofs.Contract.{lent-bytes, not-whole, too-short, to-write, finished}
 use Rattle.conversion.specs.Conversions.{conversionOf}
+use Rattle.strip.specs.Lent.{LentBytes}
 use borrow.Author.Needs.{needs}
 use Rattle.strip.proofs.convert.Statement.{statement}
 use Rattle.strip.proofs.convert.Tie as tie
@@ -34,11 +35,18 @@ scans c =
     subst (λ (m : ℕ). c .scan .result ≡ scanOf (conversionOf (c .before .before .before .before .before .before .before .args .k)) (length (now (c .before .before .before .before .before .before .before .args .input)) / m) (now (c .before .before .before .before .before .before .before .args .input)))
     (c .before .before .before .before .size-from .ensures .0) (c .scan .ensures)
 
+-- both strips, as they are lent
+kept : (c : tie.After-slice-known) → LentBytes (now (c .before .before .args .input)) (now (c .before .before .args .output)) (now (c .before .before .args .output))
+kept c = lent-bytes (c .before .shared-slice-known .given) (c .slice-known .given) (c .slice-known .given)
+
 returns : tie.Need-returns
-returns c = not-whole _ _ _ (subst (λ (m : ℕ). length (now (c .before .before .before .before .before .args .input)) % m ≡ 0 → ⊥) (c .before .before .size-from .ensures .0) (c .if1 .taken))
+returns c = (
+  not-whole _ _ _ (subst (λ (m : ℕ). length (now (c .before .before .before .before .before .args .input)) % m ≡ 0 → ⊥) (c .before .before .size-from .ensures .0) (c .if1 .taken)),
+  kept (c .before .before .before),
+)
 
 returns-2 : tie.Need-returns-2
-returns-2 c = too-short _ _ _ (whole (c .before)) (short c)
+returns-2 c = (too-short _ _ _ (whole (c .before)) (short c), kept (c .before .before .before .before))
 
 scan-requires : tie.Need-scan-requires
 scan-requires c κs = fits c
@@ -52,8 +60,11 @@ write-requires c κs =
 
 returns-3 : tie.Need-returns-3
 returns-3 c =
-    finished _ _ _ (whole (c .before .before .before .before .before .before .before)) (room (c .before .before .before .before .before .before)) _ (scans (c .before .before .before .before .before))
-    _ _ (c .before .before .before .to-write .ensures) (c .before .before .write .ensures)
+    let start = c .before .before .before .before .before .before .before .before .before .before in (
+      finished _ _ _ (whole (c .before .before .before .before .before .before .before)) (room (c .before .before .before .before .before .before)) _ (scans (c .before .before .before .before .before))
+          _ _ (c .before .before .before .to-write .ensures) (c .before .before .write .ensures),
+      lent-bytes (start .before .shared-slice-known .given) (start .slice-known .given) (c .slice-known2 .given),
+    )
 
 pub convert-spec : {M : Type 1} → statement M
 convert-spec =

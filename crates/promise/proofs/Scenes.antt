@@ -1,0 +1,105 @@
+-- DEMAND 2 OF SCENE STRIPS: for an accepted pixel strip each scene number written is a decoded
+-- number of the same channel's code, and for an accepted scene strip each code written is the
+-- nearest one, within two thirds of a code. For every strip of bytes, settings mixed.
+-- Assumes nothing.
+use mathlib.Core.Path.{_≡_, sym, ap, _∙_, subst}
+use mathlib.Core.List.{List}
+use Prim.Native.Nat.{ℕ, _*_, _^_, _≤_, _<_}
+use native.Mathlib.Nat.{le-of-eq, zero-add, lt-of-le-of-lt}
+use lib.Dec.{lit<}
+use lib.ListN.{length, drop}
+use Rattle.rules.specs.declared.Answer.the-variants.{Done}
+use Rattle.rules.specs.declared.Check.{Check}
+use Rattle.rules.specs.declared.Check.the-variants.{Passed}
+use Rattle.rules.specs.declared.Setting.{Setting}
+use Rattle.rules.specs.Setting.{codeCheck, Valid}
+use Rattle.rules.specs.Exact.{scaleOf}
+use Rattle.rules.specs.Decoding.{Decodes}
+use Rattle.rules.specs.Record.{IsBytes, ofBits, sizeOf, codeBytes, numberBytes, settingOf, channelAt}
+use Rattle.rules.specs.Strip.{recordCheck, recordAt, outputAfter}
+use Rattle.rules.proofs.Records.{length-record}
+use Rattle.rules.proofs.Settings.{code-passed}
+use Rattle.curve.proofs.Program.{top-small}
+use Rattle.curve.proofs.Theorems.{decoding}
+use Rattle.encode.proofs.Theorems.{encoded-nearest, encoded-two-thirds}
+use Rattle.conversion.specs.Conversions.{channelChecks, channelwise, sceneBits, numberCheck, codeBits, pixelToScene, sceneToPixel}
+use Rattle.conversion.proofs.Good.{Good}
+use Rattle.conversion.proofs.Channelwise.{setting-valid, channel-passes, setting-copied, channel-written}
+use Rattle.conversion.proofs.SceneBits.{scene-fits, scene-read}
+use Rattle.strip.proofs.First.{all-done}
+use Rattle.strip.proofs.Back.{whole-done}
+use Rattle.promise.specs.Words.{Accepted}
+use Rattle.promise.specs.Scenes.{HoldsScene, AcceptedScenes, EachChannel, IsDecoded, DecodedRecord, IsEncoded, EncodedRecord, ConvertedEach}
+use Rattle.promise.proofs.Strips.{written-at, length-at, bytes-at, accepted-good}
+
+-- ---- any conversion channel by channel: what is written for a channel that passes fits, and is R to the channel
+module _ (a b : ℕ) (check : Setting → ℕ → Check) (one : Setting → ℕ → ℕ) (R : Setting → (from to : ℕ) → Type 0)
+    (fits : (s : Setting) → Valid s → (u : ℕ) → check s u ≡ Passed → one s u < 256 ^ b)
+    (right : (s : Setting) → Valid s → (u : ℕ) → check s u ≡ Passed → R s u (one s u)) where
+  record-each : (r : List ℕ) → Good (channelwise a b check one) r → EachChannel a b R r (channelwise a b check one .bytes r)
+  record-each r g =
+      record {
+        setting = setting-copied a b check one fits r g;
+        channel = λ i h.
+            subst (R (settingOf r) (channelAt a r i)) (sym (channel-written a b check one fits r g i h))
+            (right (settingOf r) (setting-valid a b check one fits r g) (channelAt a r i) (channel-passes a b check one fits r g i h));
+      }
+
+  -- a strip of n records that pass
+  module _ (input output : List ℕ) (n : ℕ) (h : IsBytes input) (l : length input ≡ n * sizeOf a)
+      (passes : (k : ℕ) → k < n → recordCheck (channelwise a b check one) (recordAt (sizeOf a) k input) ≡ Passed) where
+    good : (k : ℕ) → k < n → Good (channelwise a b check one) (recordAt (sizeOf a) k input)
+    good k i =
+        record {
+          long = length-at (sizeOf a) n k input (le-of-eq (sym l)) i;
+          bytes = bytes-at (sizeOf a) k input h;
+          passes = passes k i;
+        }
+
+    strip-each : 0 < sizeOf a → n * sizeOf b ≤ length output → ConvertedEach (channelwise a b check one) (EachChannel a b R) input output n
+    unfolding outputAfter
+    strip-each p room =
+        record {
+          answers =
+              whole-done (channelwise a b check one) input output n p
+              (record {
+                long = l;
+                room = room;
+                passes = sym (all-done (recordCheck (channelwise a b check one)) (sizeOf a) n input 0 passes ∙ ap Done (zero-add n));
+              });
+          each = λ k i.
+              subst (EachChannel a b R (recordAt (sizeOf a) k input))
+              (sym (written-at (channelwise a b check one .bytes) (sizeOf b) (λ r. length-record b (settingOf r) _) (sizeOf a) n input (drop (n * sizeOf b) output) k i))
+              (record-each (recordAt (sizeOf a) k input) (good k i));
+        }
+
+-- ---- decoding
+scene-decoded : (s : Setting) → Valid s → (code : ℕ) → codeCheck s code ≡ Passed → IsDecoded s code (sceneBits s code)
+scene-decoded s v code e =
+    record { near = subst (Decodes (scaleOf s) code) (sym (scene-read s v code e)) (decoding s v code (code-passed s code e)); same = scene-read s v code e }
+
+-- PIXEL TO SCENE converts an accepted strip, and writes for each record its setting and decoded
+-- numbers of its codes, channel by channel
+pub pixels-decoded : (pixels output : List ℕ) (n : ℕ) → Accepted pixels n → n * 28 ≤ length output → ConvertedEach pixelToScene DecodedRecord pixels output n
+pixels-decoded pixels output n a room =
+    strip-each codeBytes numberBytes codeCheck sceneBits IsDecoded scene-fits scene-decoded pixels output n (a .bytes) (a .long)
+    (λ k i. accepted-good pixels n a k i .passes) (lit< tt) room
+
+-- ---- encoding
+module _ (s : Setting) (v : Valid s) (bits : ℕ) (e : numberCheck s bits ≡ Passed) where
+  code-fits : codeBits s bits < 256 ^ codeBytes
+  code-fits = lt-of-le-of-lt (encoded-nearest s (ofBits numberBytes bits) .in-range) (top-small s v)
+
+  code-encoded : IsEncoded s bits (codeBits s bits)
+  code-encoded = record { nearest = encoded-nearest s (ofBits numberBytes bits); within = encoded-two-thirds s v (ofBits numberBytes bits) }
+
+scene-passes : (r : List ℕ) → HoldsScene r → recordCheck sceneToPixel r ≡ Passed
+unfolding channelChecks
+scene-passes r h = rw (h .valid, h .numbers 0 (lit< tt), h .numbers 1 (lit< tt), h .numbers 2 (lit< tt))
+
+-- SCENE TO PIXEL converts an accepted strip, and writes for each record its setting and the nearest
+-- codes of its numbers, channel by channel
+pub scenes-encoded : (scenes output : List ℕ) (n : ℕ) → AcceptedScenes scenes n → n * 10 ≤ length output → ConvertedEach sceneToPixel EncodedRecord scenes output n
+scenes-encoded scenes output n a room =
+    strip-each numberBytes codeBytes numberCheck codeBits IsEncoded code-fits code-encoded scenes output n (a .bytes) (a .long)
+    (λ k i. scene-passes (recordAt 28 k scenes) (a .each k i)) (lit< tt) room

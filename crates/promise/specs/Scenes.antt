@@ -1,0 +1,58 @@
+-- Demand 2, of what scene strips hold. Pixel to scene writes decoded numbers, scene to pixel writes
+-- the nearest codes, each in the channel and with the setting of its own record.
+-- Assumes nothing.
+use mathlib.Core.List.{List}
+use mathlib.Core.Path.{_≡_}
+use Prim.Native.Nat.{ℕ, _*_, _<_}
+use lib.ListN.{length}
+use Rattle.rules.specs.declared.Answer.the-variants.{Done}
+use Rattle.rules.specs.declared.Check.the-variants.{Passed}
+use Rattle.rules.specs.declared.Setting.{Setting}
+use Rattle.rules.specs.Setting.{topOf, Valid}
+use Rattle.rules.specs.Exact.{scaleOf}
+use Rattle.rules.specs.Decoding.{Decodes}
+use Rattle.rules.specs.Encoding.{IsNearest, TwoThirds, sceneCheck}
+use Rattle.rules.specs.Record.{IsBytes, codeBytes, numberBytes, ofBits, settingOf, channelAt}
+use Rattle.rules.specs.Strip.{Conversion, recordAt, answerOf, outputAfter}
+use Rattle.curve.specs.Decoded.{decoded}
+
+-- a scene strip that encoding accepts: a whole number of records, and each holds a valid setting
+-- and three numbers that pass check 7
+pub record HoldsScene (r : List ℕ) : Type 0 where
+  pub valid : Valid (settingOf r)
+  pub numbers : (i : ℕ) → i < 3 → sceneCheck (ofBits numberBytes (channelAt numberBytes r i)) ≡ Passed
+
+pub record AcceptedScenes (scenes : List ℕ) (n : ℕ) : Type 0 where
+  pub bytes : IsBytes scenes
+  pub long : length scenes ≡ n * 28
+  pub each : (k : ℕ) → k < n → HoldsScene (recordAt 28 k scenes)
+
+-- what a record r with channels of a bytes became, with channels of b bytes: "A conversion copies
+-- the setting", and each channel is R to the same channel of r
+pub record EachChannel (a b : ℕ) (R : Setting → (from to : ℕ) → Type 0) (r out : List ℕ) : Type 0 where
+  pub setting : settingOf out ≡ settingOf r
+  pub channel : (i : ℕ) → i < 3 → R (settingOf r) (channelAt a r i) (channelAt b out i)
+
+-- "Each decoded channel is less than one unit (2 to the power -24) from the exact ARRI curve"; "A
+-- setting and code have one decoded number, the same in every operation and channel.": it is the
+-- number that encoding compares with
+pub record IsDecoded (s : Setting) (code bits : ℕ) : Type 0 where
+  pub near : Decodes (scaleOf s) code (ofBits numberBytes bits)
+  pub same : ofBits numberBytes bits ≡ decoded s code
+
+abbrev pub DecodedRecord : (pixel scene : List ℕ) → Type 0
+DecodedRecord = EachChannel codeBytes numberBytes IsDecoded
+
+-- "each accepted scene number encodes to the code with the nearest decoded number, and lies within
+-- two thirds of a code of the exact curve where it isn't clipped"
+pub record IsEncoded (s : Setting) (bits code : ℕ) : Type 0 where
+  pub nearest : IsNearest (decoded s) (topOf (s .width)) (ofBits numberBytes bits) code
+  pub within : TwoThirds (scaleOf s) (topOf (s .width)) (ofBits numberBytes bits) code
+
+abbrev pub EncodedRecord : (scene pixel : List ℕ) → Type 0
+EncodedRecord = EachChannel numberBytes codeBytes IsEncoded
+
+-- n records are converted, and what is written for each is R to it
+pub record ConvertedEach (c : Conversion) (R : (r out : List ℕ) → Type 0) (input output : List ℕ) (n : ℕ) : Type 0 where
+  pub answers : Done n ≡ answerOf c input output
+  pub each : (k : ℕ) → k < n → R (recordAt (c .from) k input) (recordAt (c .to) k (outputAfter c input output (Done n)))
