@@ -11,3 +11,4 @@ pub mod Program
 pub mod Fit
 pub mod Limit
 pub mod Close
+pub mod Distance
