@@ -3,7 +3,6 @@
 use mathlib.Core.Bool.{Bool, true, false}
 use mathlib.Core.Path.{_≡_, refl, sym, ap, _∙_, subst}
 use Prim.Native.Nat.{ℕ, _≤_, _^_}
-use native.Mathlib.Omega.{arith}
 use lib.Dec.{T, lit<, lit≤}
 use lib.IntN.{ℤ, natAbs}
 use Rattle.whole.proofs.Near.{Near, near-join, near-more}
@@ -24,7 +23,6 @@ use Rattle.rules.proofs.Search as search
 use Rattle.curve.specs.Decoded.{decoded}
 use Rattle.curve.proofs.Distance.{decodes-near, decodes-small}
 use Rattle.curve.proofs.Theorems.{decoding}
-use Rattle.encode.specs.Encoded.{encoded}
 use Rattle.encode.proofs.Theorems.{encoded-nearest, encode-near}
 use Rattle.inverse.specs.Given.{Small3, Given}
 use Rattle.inverse.specs.Inverse.{candidate}
