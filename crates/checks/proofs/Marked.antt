@@ -1,49 +1,44 @@
 -- The marked checks hold.
 -- Assumes nothing.
 use mathlib.Core.Bool.{Bool, true, false}
-use mathlib.Core.List.{List}
 use mathlib.Core.Logic.{_⊎_, inl, inr}
 use mathlib.Core.Path.{_≡_, refl, sym, ap, _∙_, subst}
-use Prim.Native.Nat.{ℕ, zero, suc, _+_, _-_, _*_, _^_, _≤_, _<_}
-use native.Mathlib.Nat.{le-refl}
+use Prim.Native.Nat.{ℕ, _^_, _≤_}
+use native.Mathlib.Nat.{le-refl, le-antisymm}
 use native.Mathlib.Omega.{arith}
-use borrow.Author.Tests.{eqb-true, eqb-false}
-use lib.Dec.{T, eqb, leb, lit<, lit≤}
-use lib.IntN.{ℤ, pos, negsuc, natAbs, subℕ, _-ℤ_}
-use lib.ListN.{length}
-use lib.Signed.{_≤ℤ_}
-use Rattle.whole.specs.Parts.{up, dn}
-use Rattle.whole.proofs.Reflect.{one-zero, at, leZ-of, sub-dif}
+use borrow.Author.Tests.{eqb-true, eqb-false, ltb-true, ltb-false}
+use lib.Dec.{T, eqb, leb, ltb, lit<, lit≤}
+use lib.IntN.{ℤ, pos, negsuc, natAbs, _-ℤ_}
+use lib.Signed.{_<ℤ_}
+use Rattle.whole.specs.Parts.{up}
+use Rattle.whole.proofs.Reflect.{one-zero, abs-is, at, sub, dif, ltN-of}
 use Rattle.whole.proofs.Near.{near-test}
 use Rattle.whole.proofs.Tidy.{tidy}
-use Rattle.rules.specs.Fraction.{Fraction, whole, ratio, integer, _+ℚ_, _-ℚ_, _*ℚ_, VersusPower}
+use Rattle.rules.specs.Fraction.{Fraction, whole, ratio, integer, _+ℚ_, _-ℚ_, _*ℚ_, VersusPower, nearest}
 use Rattle.rules.specs.declared.Setting.{Setting}
-use Rattle.rules.specs.Setting.{settingCheck, topOf, Valid}
-use Rattle.rules.specs.Curve.{logC4, exponent}
+use Rattle.rules.specs.Setting.{settingCheck, curveOf, topOf, Valid}
+use Rattle.rules.specs.Curve.{logC4, exponent, toeValue}
 use Rattle.rules.specs.Exact.{Scale, signal, scaleOf, powerFor, VersusPart}
 use Rattle.rules.specs.Decoding.{Less, Greater, Decodes, DecodesPart, tolerance, unit}
 use Rattle.rules.specs.Encoding.{IsNearest, sceneCheck}
 use Rattle.rules.specs.Float.{valueOf, floatCheck, unitsOf}
 use Rattle.rules.proofs.Values as values
-use Rattle.rules.specs.declared.Answer.the-variants.{Refused}
-use Rattle.rules.specs.declared.Refusal.the-variants.{PartialRecord}
-use Rattle.rules.specs.Matrix.{matrixOf, acesNumber, IsAces}
+use Rattle.rules.proofs.Search.{Gives, equal3-same, none-found}
+use Rattle.rules.specs.Matrix.{minus, matrixOf, acesNumber}
+use Rattle.rules.specs.declared.Pixel.{Pixel}
 use Rattle.rules.specs.declared.Triple.{Triple}
 use Rattle.rules.specs.declared.Found.{Found}
-use Rattle.rules.specs.declared.Found as found
 use Rattle.rules.specs.Refusal.{numberOfCheck}
-use Rattle.rules.specs.WayBack.{pixel, triple, equal3, tried, foundCheck}
+use Rattle.rules.specs.WayBack.{pixel, equal3, acesOf, pixelWith, foundCheck}
 use Rattle.rules.specs.Strip.{answerOf}
-use Rattle.curve.specs.Decoded.{offset, raw, decoded}
-use Rattle.curve.proofs.Limit.{raw-limited}
+use Rattle.curve.specs.Decoded.{decoded}
+use Rattle.curve.proofs.Distance.{decodes-rises, decodes-small}
 use Rattle.curve.proofs.Theorems.{decoding}
-use Rattle.encode.proofs.Theorems.{nearest-only, encoded-last, encode-near}
+use Rattle.encode.proofs.Theorems.{encode-near}
 use Rattle.inverse.specs.Inverse.{candidate}
-use Rattle.wayback.specs.Back.{pixelFor}
 use Rattle.wayback.specs.Candidate.{codeFor, candidatePixel}
-use Rattle.wayback.proofs.Only.{trying-finds}
-use Rattle.conversion.specs.Conversions.{pixelToScene}
-use Rattle.checks.specs.Marked.{Marked, setting, limit}
+use Rattle.wayback.proofs.Only.{only-candidate-by}
+use Rattle.checks.specs.Marked.{Marked, setting, Allowed, limit, nextTriple}
 
 abbrev curve4 : Scale
 curve4 = scaleOf (setting 4 12 0)
@@ -78,44 +73,50 @@ code-4095-units y (DecodesPart.power (VersusPart.power l) (VersusPart.power h)) 
 code-4095 : VersusPart (λ m n. m ≡ n) logC4 (signal curve4 (whole 4095)) (ratio 2349 5) false
 code-4095 = VersusPart.power (values.of-whole values.equal 2 (lit< tt) (powerFor logC4 (ratio 2349 5)) exponent-4095 20 (lit< tt) (lit< tt) refl refl)
 
-code-0 : (y : ℤ) → Decodes (scaleOf (setting 3 12 800)) 0 y → y ≡ negsuc 290084
-code-0 y (DecodesPart.toe e) = e
+-- ---- curve 3, width 12, EI 800
+abbrev s800 : Setting
+s800 = setting 3 12 800
 
-code-100 : (y : ℤ) → Decodes (scaleOf (setting 3 12 800)) 100 y → y ≡ negsuc 213757
-code-100 y (DecodesPart.toe e) = e
+-- the number of a code in the toe
+toe-number : (n : ℕ) (y : ℤ) → DecodesPart tolerance (scaleOf s800) n y true → y ≡ nearest (toeValue (curveOf s800) (signal (scaleOf s800) (whole n)) *ℚ whole (2 ^ 24))
+toe-number n y (DecodesPart.toe e) = e
 
-pixel-100 : (x y : ℤ) → Decodes (scaleOf (setting 3 12 800)) 100 x → Decodes (scaleOf (setting 3 12 800)) 0 y
-    → IsAces (matrixOf (setting 3 12 800)) x y y (negsuc 238166) (negsuc 283565) (negsuc 289927)
-unfolding acesNumber
-pixel-100 x y h g = rw (code-100 x h, code-0 y g) (record { red-is = refl; green-is = refl; blue-is = refl })
-
-scene-limit : (s : Setting) → Valid s → (n : ℕ) → IsNearest (decoded s) (topOf (s .width)) (pos limit) n → n ≡ topOf (s .width)
-scene-limit s v n i = nearest-only s (pos limit) n i ∙ encoded-last s v (pos limit) (not-above (raw s (topOf (s .width))) (raw-limited s v (topOf (s .width)) (le-refl _)))
+-- ---- scene 2^40
+-- of a number that is not below the top code's no other code is nearer than the top
+scene-limit : (s : Setting) → Valid s → (number : ℕ → ℤ) → Allowed s number → (n : ℕ) → IsNearest number (topOf (s .width)) (pos limit) n → n ≡ topOf (s .width)
+scene-limit s v number allowed n i = go (ltb n top) refl
   where
-    not-above : (u : ℕ) → u ≤ 2 ^ 33 → subℕ u offset ≤ℤ pos limit
-    not-above u h = leZ-of (at (subℕ u offset)) (at (pos limit)) (omega (arith, sub-dif u offset))
+    top : ℕ
+    top = topOf (s .width)
 
-eleven-bytes : (input output : List ℕ) → length input ≡ 11 → answerOf pixelToScene input output ≡ Refused PartialRecord 0
-unfolding answerOf
-eleven-bytes input output e = rw e
+    farther : (x y : ℤ) → x <ℤ y → natAbs y ≤ 2 ^ 33 → natAbs (pos limit -ℤ x) ≤ natAbs (pos limit -ℤ y) → ⊥
+    farther x y h g l =
+        omega (arith, ltN-of (at x) (at y) h, abs-is y, abs-is (pos limit -ℤ x), abs-is (pos limit -ℤ y), dif (sub (at (pos limit)) (at x)), dif (sub (at (pos limit)) (at y)), one-zero (pos limit -ℤ y))
 
--- the triple next to that of pixel 0, 0, 0
-abbrev next-triple : Triple
-next-triple = triple (negsuc 290084) (negsuc 290084) (negsuc 290083)
+    go : (x : Bool) → ltb n top ≡ x → n ≡ top
+    go true e =
+        absurd
+        (farther (number n) (number top)
+        (decodes-rises s v n top (ltb-true n top e) (le-refl top) (number n) (number top) (allowed n (i .in-range)) (allowed top (le-refl top)))
+        (decodes-small s v top (le-refl top) (number top) (allowed top (le-refl top)))
+        (i .nearest top (le-refl top)))
+    go false e = le-antisymm (i .in-range) (ltb-false n top e)
 
-valid-800 : Valid (setting 3 12 800)
+-- ---- the triple next to that of pixel 0, 0, 0
+valid-800 : Valid s800
 unfolding settingCheck
 valid-800 = refl
 
-decoded-0 : decoded (setting 3 12 800) 0 ≡ negsuc 290084
-decoded-0 = code-0 (decoded (setting 3 12 800) 0) (decoding (setting 3 12 800) valid-800 0 (lit≤ tt))
+decoded-0 : decoded s800 0 ≡ minus 290085
+decoded-0 = toe-number 0 (decoded s800 0) (decoding s800 valid-800 0 (lit≤ tt))
 
-near-0 : (i : ℕ) → T (leb (natAbs (candidate (setting 3 12 800) i (negsuc 290084) (negsuc 290084) (negsuc 290083) -ℤ negsuc 290084)) 13) → codeFor (setting 3 12 800) i next-triple ≡ 0
+-- a candidate near the number of code 0
+near-0 : (i : ℕ) → T (leb (natAbs (candidate s800 i (nextTriple .red .0) (nextTriple .green .0) (nextTriple .blue .0) -ℤ minus 290085)) 13) → codeFor s800 i nextTriple ≡ 0
 near-0 i t =
-    encode-near (setting 3 12 800) valid-800 (candidate (setting 3 12 800) i (negsuc 290084) (negsuc 290084) (negsuc 290083)) 0 (lit≤ tt)
-    (rw decoded-0 (near-test (candidate (setting 3 12 800) i (negsuc 290084) (negsuc 290084) (negsuc 290083)) (negsuc 290084) 13 t))
+    let c = candidate s800 i (nextTriple .red .0) (nextTriple .green .0) (nextTriple .blue .0) in
+    encode-near s800 valid-800 c 0 (lit≤ tt) (rw decoded-0 (near-test c (minus 290085) 13 t))
 
-first-pixel : candidatePixel (setting 3 12 800) next-triple ≡ pixel 0 0 0
+first-pixel : candidatePixel s800 nextTriple ≡ pixel 0 0 0
 unfolding acesNumber
 first-pixel =
     let r = near-0 0 tt in
@@ -123,27 +124,32 @@ first-pixel =
     let b = near-0 2 tt in
     λ i. record { red = record { 0 = r i }; green = record { 0 = g i }; blue = record { 0 = b i } }
 
-first-tried : tried (decoded (setting 3 12 800)) (matrixOf (setting 3 12 800)) next-triple (pixel 0 0 0) ≡ found.Found.Nothing
-unfolding acesNumber equal3
-first-tried = rw decoded-0
+module _ (number : ℕ → ℤ) (allowed : Allowed s800 number) where
+  -- it gives another triple
+  first-gives : equal3 nextTriple (acesOf number (matrixOf s800) (pixel 0 0 0)) ≡ false
+  unfolding acesNumber equal3
+  first-gives = rw (toe-number 0 (number 0) (allowed 0 (lit≤ tt)))
 
-nothing-found : pixelFor (setting 3 12 800) next-triple ≡ found.Found.Nothing
-nothing-found =
-    sym (trying-finds (setting 3 12 800) valid-800 next-triple) ∙ ap (tried (decoded (setting 3 12 800)) (matrixOf (setting 3 12 800)) next-triple) first-pixel ∙ first-tried
+  -- and no other pixel can give this one
+  never : (q : Pixel) → Gives number (matrixOf s800) (topOf 12) nextTriple q → ⊥
+  never q g =
+      let e : q ≡ pixel 0 0 0 = only-candidate-by s800 valid-800 number allowed nextTriple q g ∙ first-pixel in
+      let f : equal3 nextTriple (acesOf number (matrixOf s800) q) ≡ true = ap (λ (a : Triple). equal3 nextTriple a) (sym (g .numbers)) ∙ equal3-same nextTriple in
+      absurd (subst T (sym f ∙ ap (λ (p : Pixel). equal3 nextTriple (acesOf number (matrixOf s800) p)) e ∙ first-gives) tt)
 
-no-pixel : numberOfCheck (foundCheck (pixelFor (setting 3 12 800) next-triple)) ≡ 10
-no-pixel = ap (λ (f : Found). numberOfCheck (foundCheck f)) nothing-found
+  no-pixel : numberOfCheck (foundCheck (pixelWith number (matrixOf s800) (topOf 12) nextTriple)) ≡ 10
+  no-pixel = ap (λ (f : Found). numberOfCheck (foundCheck f)) (none-found number (matrixOf s800) (topOf 12) nextTriple never)
 
 -- THE LIST
 pub marked : Marked
-unfolding settingCheck sceneCheck floatCheck unitsOf valueOf
+unfolding settingCheck sceneCheck floatCheck unitsOf valueOf acesNumber answerOf
 marked =
     record {
       code-4095 = code-4095;
       code-4095-units = code-4095-units;
-      code-0 = code-0;
-      code-100 = code-100;
-      pixel-100 = pixel-100;
+      code-0 = toe-number 0;
+      code-100 = toe-number 100;
+      pixel-100 = λ x y h g. rw (toe-number 100 x h, toe-number 0 y g) (record { red-is = refl; green-is = refl; blue-is = refl });
       code-612 = refl;
       code-613 = refl;
       ei-800 = refl;
@@ -151,7 +157,7 @@ marked =
       code-1023 = refl;
       code-1024 = refl;
       partial-record = refl;
-      eleven-bytes = eleven-bytes;
+      eleven-bytes = λ input output e. (rw e, rw e);
       scene-limit = scene-limit;
       scene-limit-passes = refl;
       scene-past-limit = refl;

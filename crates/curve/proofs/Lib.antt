@@ -12,3 +12,4 @@ pub mod Fit
 pub mod Limit
 pub mod Close
 pub mod Answers
+pub mod Distance

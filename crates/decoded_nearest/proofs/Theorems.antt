@@ -5,17 +5,18 @@ use mathlib.Core.Path.{_≡_}
 use Prim.Native.Nat.{ℕ, _≤_}
 use lib.Dec.{lit<, lit≤}
 use lib.IntN.{ℤ}
+use Rattle.whole.proofs.Near.{near-same}
 use Rattle.rules.specs.declared.Setting.{Setting}
 use Rattle.rules.specs.Setting.{topOf, curveOf, Valid}
 use Rattle.rules.specs.Exact.{scaleOf}
 use Rattle.table.specs.Table.{tableOf}
 use Rattle.curve.specs.Decoded.{decoded}
+use Rattle.curve.proofs.Distance.{numbers-near}
 use Rattle.curve.proofs.Right.{within}
 use Rattle.curve.proofs.Settings.{sourceOf, passed}
 use Rattle.decoded_margins.proofs.Margins.{room-for-half}
 use Rattle.decoded_margins.proofs.Settings.{margins}
 use Rattle.decoded_nearest.specs.Nearest.{half, Nearest, NearestNumbers}
-use Rattle.decoded_nearest.proofs.Only.{only}
 
 -- THE DECODED NUMBERS are the nearest
 pub decoded-nearest : NearestNumbers decoded
@@ -26,7 +27,9 @@ decoded-nearest s v n h =
 
 -- and no other number is
 pub only-nearest : (s : Setting) → Valid s → (n : ℕ) → n ≤ topOf (s .width) → (y : ℤ) → Nearest (scaleOf s) n y → y ≡ decoded s n
-only-nearest s v n h y p = only (half .plus) (half .over) (lit< tt) (lit≤ tt) (curveOf s) 0 (topOf (s .width)) (topOf (s .width)) (tableOf s) (sourceOf s) (passed s v) n y (decoded s n) p (decoded-nearest s v n h)
+only-nearest s v n h y p =
+    near-same
+    (numbers-near (half .plus) (half .over) 0 (lit< tt) (lit≤ tt) (curveOf s) 0 (topOf (s .width)) (topOf (s .width)) (tableOf s) (sourceOf s) (passed s v) n y (decoded s n) p (decoded-nearest s v n h))
 
 -- so whoever computes nearest numbers computes these
 pub nearest-numbers : (number : Setting → ℕ → ℤ) → NearestNumbers number → (s : Setting) → Valid s → (n : ℕ) → n ≤ topOf (s .width) → number s n ≡ decoded s n

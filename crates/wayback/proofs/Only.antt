@@ -3,10 +3,9 @@
 use mathlib.Core.Bool.{Bool, true, false}
 use mathlib.Core.Path.{_≡_, refl, sym, ap, _∙_, subst}
 use Prim.Native.Nat.{ℕ, _≤_, _^_}
-use native.Mathlib.Omega.{arith}
 use lib.Dec.{T, lit<, lit≤}
-use lib.IntN.{ℤ}
-use Rattle.whole.proofs.Near.{near-more}
+use lib.IntN.{ℤ, natAbs}
+use Rattle.whole.proofs.Near.{Near, near-join, near-more}
 use Rattle.rules.specs.declared.Pixel.{Pixel}
 use Rattle.rules.specs.declared.Setting.{Setting}
 use Rattle.rules.specs.declared.Triple.{Triple}
@@ -14,50 +13,65 @@ use Rattle.rules.specs.declared.Check.the-variants.{Passed}
 use Rattle.rules.specs.declared.Found.{Found}
 use Rattle.rules.specs.declared.Found as found
 use Rattle.rules.specs.Setting.{topOf, Valid}
+use Rattle.rules.specs.Exact.{scaleOf}
+use Rattle.rules.specs.Decoding.{Decodes}
 use Rattle.rules.specs.Matrix.{matrixOf, IsAces}
 use Rattle.rules.specs.Choice.{choose}
 use Rattle.rules.specs.WayBack.{IsPixel, equal3, tried, pixelWith, foundCheck}
 use Rattle.rules.proofs.Settings.{code-passes, refused-never}
 use Rattle.rules.proofs.Search as search
 use Rattle.curve.specs.Decoded.{decoded}
-use Rattle.encode.specs.Encoded.{encoded}
+use Rattle.curve.proofs.Distance.{decodes-near, decodes-small}
+use Rattle.curve.proofs.Theorems.{decoding}
 use Rattle.encode.proofs.Theorems.{encoded-nearest, encode-near}
 use Rattle.inverse.specs.Given.{Small3, Given}
 use Rattle.inverse.specs.Inverse.{candidate}
 use Rattle.inverse.proofs.Inverse.{aces-small, candidate-near}
-use Rattle.matrix.proofs.Theorems.{decoded-small}
 use Rattle.wayback.specs.Back.{pixelAces, pixelFor}
 use Rattle.wayback.specs.Candidate.{codeFor, candidatePixel, allInReach}
 use Rattle.wayback.proofs.Reach.{given-reached, reached-given}
+
+-- ---- by any numbers that the rules allow for the codes of the setting
+module _ (s : Setting) (v : Valid s) (number : ℕ → ℤ) (allowed : (n : ℕ) → n ≤ topOf (s .width) → Decodes (scaleOf s) n (number n)) (a : Triple) (q : Pixel)
+    (g : search.Gives number (matrixOf s) (topOf (s .width)) a q) where
+  small : (n : ℕ) → n ≤ topOf (s .width) → natAbs (number n) ≤ 2 ^ 33
+  small n h = decodes-small s v n h (number n) (allowed n h)
+
+  scenes-small : Small3 (2 ^ 33) (number (q .red .0)) (number (q .green .0)) (number (q .blue .0))
+  scenes-small = record { red = small (q .red .0) (g .red); green = small (q .green .0) (g .green); blue = small (q .blue .0) (g .blue) }
+
+  is-aces : IsAces (matrixOf s) (number (q .red .0)) (number (q .green .0)) (number (q .blue .0)) (a .red .0) (a .green .0) (a .blue .0)
+  is-aces = record { red-is = ap (λ (t : Triple). t .red .0) (g .numbers); green-is = ap (λ (t : Triple). t .green .0) (g .numbers); blue-is = ap (λ (t : Triple). t .blue .0) (g .numbers) }
+
+  -- the numbers that the pixel gives are in reach
+  reached-by : allInReach a ≡ true
+  reached-by = given-reached a (aces-small s _ _ _ scenes-small is-aces)
+
+  -- within one unit of a code's number, which is within one of the decoded number: it is encoded to that code
+  code-by : (i n : ℕ) → n ≤ topOf (s .width) → Near (candidate s i (a .red .0) (a .green .0) (a .blue .0)) (number n) 1 → codeFor s i a ≡ n
+  code-by i n h c =
+      encode-near s v (candidate s i (a .red .0) (a .green .0) (a .blue .0)) n h (near-more (lit≤ tt) (near-join c (decodes-near s v n h (number n) (allowed n h))))
+
+  -- THE ONLY PIXEL: what gives the numbers is the candidate
+  pub only-candidate-by : q ≡ candidatePixel s a
+  only-candidate-by =
+      let r = code-by 0 (q .red .0) (g .red) (candidate-near s _ _ _ scenes-small is-aces 0 (lit< tt)) in
+      let e = code-by 1 (q .green .0) (g .green) (candidate-near s _ _ _ scenes-small is-aces 1 (lit< tt)) in
+      let b = code-by 2 (q .blue .0) (g .blue) (candidate-near s _ _ _ scenes-small is-aces 2 (lit< tt)) in
+      λ i. record { red = record { 0 = sym r i }; green = record { 0 = sym e i }; blue = record { 0 = sym b i } }
+
+-- ---- by the decoded numbers
 
 -- a pixel of the setting that gives the numbers
 abbrev pub PixelGives : Setting → Triple → Pixel → Type 0
 PixelGives s a q = search.Gives (decoded s) (matrixOf s) (topOf (s .width)) a q
 
 module _ (s : Setting) (v : Valid s) (a : Triple) where
-  module _ (q : Pixel) (g : PixelGives s a q) where
-    scenes-small : Small3 (2 ^ 33) (decoded s (q .red .0)) (decoded s (q .green .0)) (decoded s (q .blue .0))
-    scenes-small = record { red = decoded-small s v (q .red .0) (g .red); green = decoded-small s v (q .green .0) (g .green); blue = decoded-small s v (q .blue .0) (g .blue) }
+  pub reached : (q : Pixel) → PixelGives s a q → allInReach a ≡ true
+  reached q g = reached-by s v (decoded s) (decoding s v) a q g
 
-    is-aces : IsAces (matrixOf s) (decoded s (q .red .0)) (decoded s (q .green .0)) (decoded s (q .blue .0)) (a .red .0) (a .green .0) (a .blue .0)
-    is-aces = record { red-is = ap (λ (t : Triple). t .red .0) (g .numbers); green-is = ap (λ (t : Triple). t .green .0) (g .numbers); blue-is = ap (λ (t : Triple). t .blue .0) (g .numbers) }
-
-    -- its numbers are in reach
-    pub reached : allInReach a ≡ true
-    reached = given-reached a (aces-small s _ _ _ scenes-small is-aces)
-
-    red-code : codeFor s 0 a ≡ q .red .0
-    red-code = encode-near s v (candidate s 0 (a .red .0) (a .green .0) (a .blue .0)) (q .red .0) (g .red) (near-more (lit≤ tt) (candidate-near s _ _ _ scenes-small is-aces 0 (lit< tt)))
-
-    green-code : codeFor s 1 a ≡ q .green .0
-    green-code = encode-near s v (candidate s 1 (a .red .0) (a .green .0) (a .blue .0)) (q .green .0) (g .green) (near-more (lit≤ tt) (candidate-near s _ _ _ scenes-small is-aces 1 (lit< tt)))
-
-    blue-code : codeFor s 2 a ≡ q .blue .0
-    blue-code = encode-near s v (candidate s 2 (a .red .0) (a .green .0) (a .blue .0)) (q .blue .0) (g .blue) (near-more (lit≤ tt) (candidate-near s _ _ _ scenes-small is-aces 2 (lit< tt)))
-
-    -- THE ONLY PIXEL: what gives the numbers is the candidate
-    pub only-candidate : q ≡ candidatePixel s a
-    only-candidate = λ i. record { red = record { 0 = sym red-code i }; green = record { 0 = sym green-code i }; blue = record { 0 = sym blue-code i } }
+  pub only-candidate : (q : Pixel) → PixelGives s a q → q ≡ candidatePixel s a
+  only-candidate q g = only-candidate-by s v (decoded s) (decoding s v) a q g
 
   candidate-gives : equal3 a (pixelAces s (candidatePixel s a)) ≡ true → PixelGives s a (candidatePixel s a)
   candidate-gives e =
