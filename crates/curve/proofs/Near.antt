@@ -15,7 +15,7 @@ use Rattle.rules.specs.Fraction.{Fraction, ratio, whole, integer, _+ℚ_, _-ℚ
 use Rattle.rules.specs.Curve.{base, exponent, factor}
 use Rattle.rules.specs.Curve as curve
 use Rattle.rules.specs.Exact.{Scale, signal, powerFor}
-use Rattle.rules.specs.Decoding.{Less, Greater}
+use Rattle.rules.specs.Decoding.{tolerance, Less, Greater}
 use Rattle.rules.specs.Decoding as decoding
 use Rattle.rules.proofs.Values.{less, flip}
 use Rattle.power.specs.Power.{Below, Above}
@@ -24,7 +24,7 @@ use Rattle.table.specs.Table.{lift}
 use Rattle.curve.specs.Decoded.{offset, product, powerRaw, decoderOf}
 use Rattle.curve.proofs.Cleared.{above, exponentAt}
 use Rattle.whole.proofs.Tests.{nth, passes, every}
-use Rattle.curve.proofs.Tests.{Source, tests, b, by, q, times, kappa, plus-less, minus-less, begin, entry, unit, first, bias, near, far, near-above, near-below}
+use Rattle.curve.proofs.Tests.{Source, tests, b, by, q, times, kappa, plus-less, minus-less, begin, entry, unit, first, bias, near-above, near-below}
 use Rattle.curve.proofs.Law.{q-nonzero, law, product-positive}
 use Rattle.curve.proofs.Compare.{kappa-pos, lift-pos, wanted, wanted-is, lifted-ok, by-rules}
 
@@ -91,12 +91,12 @@ module _ (k : Scale) (top : ℕ) (t : List ℕ) (s : Source) (ok : T (every (tes
       }
 
   -- for the rules' tolerance, by the tests
-  pub room : Room k t n near far
+  pub room : Room k t n (tolerance .plus) (tolerance .over)
   unfolding nth
   room =
-      room-by near far (lit< tt) (bias k) (bias k) (div-mul-le-self (product t n + bias k) (2 ^ 29)) (lt-div-mul-add {a = product t n + bias k} {b = 2 ^ 29} (lit< tt))
-      (ltb→lt (far * kappa k * bias k + far * 2 ^ 24 * plus-less k * 2 ^ 29) (kappa k * (far * offset + near) * 2 ^ 29 + far * 2 ^ 24 * minus-less k * 2 ^ 29) (passes (tests k top t s) ok near-below))
-      (ltb→lt (far * kappa k * 2 ^ 29 + 4 * (far * kappa k) + far * offset * kappa k * 2 ^ 29 + far * 2 ^ 24 * minus-less k * 2 ^ 29) (near * kappa k * 2 ^ 29 + far * 2 ^ 24 * plus-less k * 2 ^ 29 + far * kappa k * bias k) (passes (tests k top t s) ok near-above))
+      room-by (tolerance .plus) (tolerance .over) (lit< tt) (bias k) (bias k) (div-mul-le-self (product t n + bias k) (2 ^ 29)) (lt-div-mul-add {a = product t n + bias k} {b = 2 ^ 29} (lit< tt))
+      (ltb→lt (tolerance .over * kappa k * bias k + tolerance .over * 2 ^ 24 * plus-less k * 2 ^ 29) (kappa k * (tolerance .over * offset + tolerance .plus) * 2 ^ 29 + tolerance .over * 2 ^ 24 * minus-less k * 2 ^ 29) (passes (tests k top t s) ok near-below))
+      (ltb→lt (tolerance .over * kappa k * 2 ^ 29 + 4 * (tolerance .over * kappa k) + tolerance .over * offset * kappa k * 2 ^ 29 + tolerance .over * 2 ^ 24 * minus-less k * 2 ^ 29) (tolerance .plus * kappa k * 2 ^ 29 + tolerance .over * 2 ^ 24 * plus-less k * 2 ^ 29 + tolerance .over * kappa k * bias k) (passes (tests k top t s) ok near-above))
 
   exponent-at : begin k + n * by k ≡ exponentAt k n 1 .plus + (lift * q k - exponentAt k n 1 .minus)
   exponent-at = omega (arith, lifted-ok k top t s ok n 1 (lit< tt))

@@ -49,13 +49,6 @@ slack = 4
 
 -- ---- the numbers of the tests
 
--- how far a decoded number may be off, in units: near / far
-abbrev pub near : ℕ
-near = tolerance .plus
-
-abbrev pub far : ℕ
-far = tolerance .over
-
 module _ (k : Scale) where
   abbrev pub b : ℕ
   b = base (k .curve)
@@ -130,8 +123,8 @@ tests k top t s =
     ∷ leb fine (s .ratio)
     ∷ leb ((gap * 2 ^ 29 + 5) * fine + 5 * (s .ratio - fine)) (product t (first k) * (s .ratio - fine))
     ∷ ltb 5 (product t (first k))
-    ∷ ltb (far * kappa k * bias k + far * 2 ^ 24 * plus-less k * 2 ^ 29) (kappa k * (far * offset + near) * 2 ^ 29 + far * 2 ^ 24 * minus-less k * 2 ^ 29)
-    ∷ ltb (far * kappa k * 2 ^ 29 + 4 * (far * kappa k) + far * offset * kappa k * 2 ^ 29 + far * 2 ^ 24 * minus-less k * 2 ^ 29) (near * kappa k * 2 ^ 29 + far * 2 ^ 24 * plus-less k * 2 ^ 29 + far * kappa k * bias k)
+    ∷ ltb (tolerance .over * kappa k * bias k + tolerance .over * 2 ^ 24 * plus-less k * 2 ^ 29) (kappa k * (tolerance .over * offset + tolerance .plus) * 2 ^ 29 + tolerance .over * 2 ^ 24 * minus-less k * 2 ^ 29)
+    ∷ ltb (tolerance .over * kappa k * 2 ^ 29 + 4 * (tolerance .over * kappa k) + tolerance .over * offset * kappa k * 2 ^ 29 + tolerance .over * 2 ^ 24 * minus-less k * 2 ^ 29) (tolerance .plus * kappa k * 2 ^ 29 + tolerance .over * 2 ^ 24 * plus-less k * 2 ^ 29 + tolerance .over * kappa k * bias k)
     ∷ ltb 0 (kappa k)
     ∷ ltb 0 (k .span)
     ∷ every (toeTests (k .curve) (k .start) (k .span) t)
