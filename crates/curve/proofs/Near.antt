@@ -6,7 +6,7 @@ use mathlib.Core.List.{List}
 use Prim.Native.Nat.{ℕ, _+_, _-_, _*_, _/_, _^_, _≤_, _<_}
 use native.Mathlib.Nat.{mul-lt-mul-of-pos-right, mul-comm, mul-sub, mul-le-mul-left, mul-pos, div-mul-le-self, lt-div-mul-add}
 use native.Mathlib.Omega.{arith}
-use lib.Dec.{T, ltb→lt, lit<}
+use lib.Dec.{T, ltb, ltb→lt, lit<}
 use lib.IntN.{ℤ, subℕ}
 use Rattle.whole.specs.Parts.{up, dn}
 use Rattle.whole.proofs.Reflect.{sub-dif}
@@ -15,7 +15,7 @@ use Rattle.rules.specs.Fraction.{Fraction, ratio, whole, integer, _+ℚ_, _-ℚ
 use Rattle.rules.specs.Curve.{base, exponent, factor}
 use Rattle.rules.specs.Curve as curve
 use Rattle.rules.specs.Exact.{Scale, signal, powerFor}
-use Rattle.rules.specs.Decoding.{Less, Greater}
+use Rattle.rules.specs.Decoding.{tolerance, Less, Greater}
 use Rattle.rules.specs.Decoding as decoding
 use Rattle.rules.proofs.Values.{less, flip}
 use Rattle.power.specs.Power.{Below, Above}
@@ -24,7 +24,7 @@ use Rattle.table.specs.Table.{lift}
 use Rattle.curve.specs.Decoded.{offset, product, powerRaw, decoderOf}
 use Rattle.curve.proofs.Cleared.{above, exponentAt}
 use Rattle.whole.proofs.Tests.{nth, passes, every}
-use Rattle.curve.proofs.Tests.{Source, tests, b, by, q, times, kappa, plus-less, minus-less, begin, entry, unit, first, bias, near, far, near-above, near-below}
+use Rattle.curve.proofs.Tests.{Source, tests, b, by, q, times, kappa, plus-less, minus-less, begin, entry, unit, first, bias, roomTests, has-room}
 use Rattle.curve.proofs.Law.{q-nonzero, law, product-positive}
 use Rattle.curve.proofs.Compare.{kappa-pos, lift-pos, wanted, wanted-is, lifted-ok, by-rules}
 
@@ -36,15 +36,15 @@ cut-gt : (A B C w : ℕ) → C + B * w < A * w → C < (A - B) * w
 cut-gt A B C w h = omega (arith, mul-comm (A - B) w ∙ mul-sub w A B)
 
 -- the number u of the product v (with the bias i, at w a unit): u - o - N / D is too small for v, and u - o + N / D too large for v + 5
-low-enough : (D N κ u v i w Y Z o : ℕ) → 0 < D * κ * v → u * w ≤ v + i → D * κ * i + Y * w < κ * (D * o + N) * w + Z * w
+low-enough : (D N κ u v i w Y Z o : ℕ) → 0 < D * κ * v → u * w ≤ v + i → T (ltb (D * κ * i + Y * w) (κ * (D * o + N) * w + Z * w))
     → (D * u * κ + Y - ((D * o + N) * κ + Z)) * w < D * κ * v
 low-enough D N κ u v i w Y Z o p h t =
-    cut-lt (D * u * κ + Y) ((D * o + N) * κ + Z) (D * κ * v) w p (omega (arith, mul-le-mul-left (D * κ) h))
+    cut-lt (D * u * κ + Y) ((D * o + N) * κ + Z) (D * κ * v) w p (omega (arith, ltb→lt, mul-le-mul-left (D * κ) h))
 
-high-enough : (D N κ u v i w Y Z o : ℕ) → v + i < u * w + w → D * κ * w + 4 * (D * κ) + D * o * κ * w + Z * w < N * κ * w + Y * w + D * κ * i
+high-enough : (D N κ u v i w Y Z o : ℕ) → v + i < u * w + w → T (ltb (D * κ * w + 4 * (D * κ) + D * o * κ * w + Z * w) (N * κ * w + Y * w + D * κ * i))
     → D * κ * (v + 5) < ((D * u + N) * κ + Y - (D * o * κ + Z)) * w
 high-enough D N κ u v i w Y Z o h t =
-    cut-gt ((D * u + N) * κ + Y) (D * o * κ + Z) (D * κ * (v + 5)) w (omega (arith, mul-le-mul-left (D * κ) h))
+    cut-gt ((D * u + N) * κ + Y) (D * o * κ + Z) (D * κ * (v + 5)) w (omega (arith, ltb→lt, mul-le-mul-left (D * κ) h))
 
 -- what the tests say at the scale of the program, as the powers want it
 scaled-low : (X B T H M D v : ℕ) → 0 < B * T → X * 2 ^ 29 < D * (H * M) * v → X * B * (2 ^ 53 * T) < H * B * v * (D * 2 ^ 24 * T * M)
@@ -79,24 +79,22 @@ module _ (k : Scale) (top : ℕ) (t : List ℕ) (s : Source) (ok : T (every (tes
 
   -- room where the product with two biases, i below and j above, is rounded down to the number
   pub room-by : (N D : ℕ) → 0 < D → (i j : ℕ) → u * 2 ^ 29 ≤ product t n + i → product t n + j < u * 2 ^ 29 + 2 ^ 29
-      → D * kappa k * i + D * 2 ^ 24 * plus-less k * 2 ^ 29 < kappa k * (D * offset + N) * 2 ^ 29 + D * 2 ^ 24 * minus-less k * 2 ^ 29
-      → D * kappa k * 2 ^ 29 + 4 * (D * kappa k) + D * offset * kappa k * 2 ^ 29 + D * 2 ^ 24 * minus-less k * 2 ^ 29 < N * kappa k * 2 ^ 29 + D * 2 ^ 24 * plus-less k * 2 ^ 29 + D * kappa k * j
-      → Room k t n N D
-  room-by N D pD i j below above small large =
+      → T (every (roomTests k N D i j)) → Room k t n N D
+  unfolding nth
+  room-by N D pD i j below above r =
       record {
         low =
             low-enough D N (kappa k) u (product t n) i (2 ^ 29) (D * 2 ^ 24 * plus-less k) (D * 2 ^ 24 * minus-less k) offset
-            (mul-pos (mul-pos pD (kappa-pos k top t s ok)) (product-positive k top t s ok n from to)) below small;
-        high = high-enough D N (kappa k) u (product t n) j (2 ^ 29) (D * 2 ^ 24 * plus-less k) (D * 2 ^ 24 * minus-less k) offset above large;
+            (mul-pos (mul-pos pD (kappa-pos k top t s ok)) (product-positive k top t s ok n from to)) below (passes (roomTests k N D i j) r 0);
+        high = high-enough D N (kappa k) u (product t n) j (2 ^ 29) (D * 2 ^ 24 * plus-less k) (D * 2 ^ 24 * minus-less k) offset above (passes (roomTests k N D i j) r 1);
       }
 
   -- for the rules' tolerance, by the tests
-  pub room : Room k t n near far
+  pub room : Room k t n (tolerance .plus) (tolerance .over)
   unfolding nth
   room =
-      room-by near far (lit< tt) (bias k) (bias k) (div-mul-le-self (product t n + bias k) (2 ^ 29)) (lt-div-mul-add {a = product t n + bias k} {b = 2 ^ 29} (lit< tt))
-      (ltb→lt (far * kappa k * bias k + far * 2 ^ 24 * plus-less k * 2 ^ 29) (kappa k * (far * offset + near) * 2 ^ 29 + far * 2 ^ 24 * minus-less k * 2 ^ 29) (passes (tests k top t s) ok near-below))
-      (ltb→lt (far * kappa k * 2 ^ 29 + 4 * (far * kappa k) + far * offset * kappa k * 2 ^ 29 + far * 2 ^ 24 * minus-less k * 2 ^ 29) (near * kappa k * 2 ^ 29 + far * 2 ^ 24 * plus-less k * 2 ^ 29 + far * kappa k * bias k) (passes (tests k top t s) ok near-above))
+      room-by (tolerance .plus) (tolerance .over) (lit< tt) (bias k) (bias k) (div-mul-le-self (product t n + bias k) (2 ^ 29)) (lt-div-mul-add {a = product t n + bias k} {b = 2 ^ 29} (lit< tt))
+      (passes (tests k top t s) ok has-room)
 
   exponent-at : begin k + n * by k ≡ exponentAt k n 1 .plus + (lift * q k - exponentAt k n 1 .minus)
   exponent-at = omega (arith, lifted-ok k top t s ok n 1 (lit< tt))

@@ -13,13 +13,13 @@ use Rattle.rules.specs.Choice.{choose}
 use Rattle.rules.specs.Fraction.{ratio, whole}
 use Rattle.rules.specs.Curve.{Curve, logC4, logC3, Constants, inToe}
 use Rattle.rules.specs.Exact.{Scale, signal, VersusPart}
-use Rattle.rules.specs.Decoding.{DecodesPart, DecodesWithin, Decodes}
+use Rattle.rules.specs.Decoding.{tolerance, DecodesPart, DecodesWithin, Decodes}
 use Rattle.table.specs.Table.{fine}
 use Rattle.curve.specs.declared.decoder.Decoder.{Decoder}
 use Rattle.curve.specs.Gap.{gap}
 use Rattle.curve.specs.Decoded.{offset, product, toeRaw, powerRaw, rawBy, decoderOf, firstOf, toeOf, overOf}
 use Rattle.whole.proofs.Tests.{nth, passes, every}
-use Rattle.curve.proofs.Tests.{Source, tests, toeTests, near, far, first, bias, ratio-above-one, steps, toe-right, toe-added, toe-divisor, toe-steps, border-rises}
+use Rattle.curve.proofs.Tests.{Source, tests, toeTests, first, bias, ratio-above-one, steps, toe-right, toe-added, toe-divisor, toe-steps, border-rises}
 use Rattle.curve.proofs.Law.{no-less, next-low}
 use Rattle.curve.proofs.Near.{Room, room, below-exact, above-exact}
 use Rattle.curve.proofs.Toe.{toe-code, power-code, toe-number}
@@ -170,7 +170,7 @@ within (logC3 c) start span top t s ok N D pD r = within3 c start span top t s o
 
 pub decodes : (c : Curve) (start span top : ℕ) (t : List ℕ) (s : Source) → T (every (tests (record { curve = c; start = start; span = span }) top t s))
     → (n : ℕ) → n ≤ top → Decodes (record { curve = c; start = start; span = span }) n (subℕ (rawBy (decoderOf (record { curve = c; start = start; span = span })) t n) offset)
-decodes c start span top t s ok = within c start span top t s ok near far (lit< tt) (room (record { curve = c; start = start; span = span }) top t s ok)
+decodes c start span top t s ok = within c start span top t s ok (tolerance .plus) (tolerance .over) (lit< tt) (room (record { curve = c; start = start; span = span }) top t s ok)
 
 pub rises : (c : Curve) (start span top : ℕ) (t : List ℕ) (s : Source) → T (every (tests (record { curve = c; start = start; span = span }) top t s))
     → (n : ℕ) → n < top → rawBy (decoderOf (record { curve = c; start = start; span = span })) t n + gap ≤ rawBy (decoderOf (record { curve = c; start = start; span = span })) t (n + 1)

@@ -49,13 +49,6 @@ slack = 4
 
 -- ---- the numbers of the tests
 
--- how far a decoded number may be off, in units: near / far
-abbrev pub near : ℕ
-near = tolerance .plus
-
-abbrev pub far : ℕ
-far = tolerance .over
-
 module _ (k : Scale) where
   abbrev pub b : ℕ
   b = base (k .curve)
@@ -97,6 +90,13 @@ module _ (k : Scale) where
   abbrev pub bias : ℕ
   bias = biasOf (k .curve)
 
+  -- room for a tolerance N / D, where the product with two biases, i below and j above, is rounded down to the number
+  abbrev pub roomTests : (N D i j : ℕ) → List Bool
+  roomTests N D i j =
+      ltb (D * kappa * i + D * 2 ^ 24 * plus-less * 2 ^ 29) (kappa * (D * offset + N) * 2 ^ 29 + D * 2 ^ 24 * minus-less * 2 ^ 29)
+      ∷ ltb (D * kappa * 2 ^ 29 + 4 * (D * kappa) + D * offset * kappa * 2 ^ 29 + D * 2 ^ 24 * minus-less * 2 ^ 29) (N * kappa * 2 ^ 29 + D * 2 ^ 24 * plus-less * 2 ^ 29 + D * kappa * j)
+      ∷ []
+
 -- curve 4 has no toe
 abbrev pub toeTests : Curve → (start span : ℕ) → List ℕ → List Bool
 toeTests logC4 start span t = []
@@ -130,8 +130,7 @@ tests k top t s =
     ∷ leb fine (s .ratio)
     ∷ leb ((gap * 2 ^ 29 + 5) * fine + 5 * (s .ratio - fine)) (product t (first k) * (s .ratio - fine))
     ∷ ltb 5 (product t (first k))
-    ∷ ltb (far * kappa k * bias k + far * 2 ^ 24 * plus-less k * 2 ^ 29) (kappa k * (far * offset + near) * 2 ^ 29 + far * 2 ^ 24 * minus-less k * 2 ^ 29)
-    ∷ ltb (far * kappa k * 2 ^ 29 + 4 * (far * kappa k) + far * offset * kappa k * 2 ^ 29 + far * 2 ^ 24 * minus-less k * 2 ^ 29) (near * kappa k * 2 ^ 29 + far * 2 ^ 24 * plus-less k * 2 ^ 29 + far * kappa k * bias k)
+    ∷ every (roomTests k (tolerance .plus) (tolerance .over) (bias k) (bias k))
     ∷ ltb 0 (kappa k)
     ∷ ltb 0 (k .span)
     ∷ every (toeTests (k .curve) (k .start) (k .span) t)
@@ -200,26 +199,23 @@ steps = 18
 abbrev pub least-large : ℕ
 least-large = 19
 
-abbrev pub near-below : ℕ
-near-below = 20
-
-abbrev pub near-above : ℕ
-near-above = 21
+abbrev pub has-room : ℕ
+has-room = 20
 
 abbrev pub kappa-positive : ℕ
-kappa-positive = 22
+kappa-positive = 21
 
 abbrev pub span-positive : ℕ
-span-positive = 23
+span-positive = 22
 
 abbrev pub toe-right : ℕ
-toe-right = 24
+toe-right = 23
 
 abbrev pub lows-small : ℕ
-lows-small = 25
+lows-small = 24
 
 abbrev pub toe-small : ℕ
-toe-small = 26
+toe-small = 25
 
 -- of toeTests
 abbrev pub toe-added : ℕ

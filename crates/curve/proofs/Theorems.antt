@@ -18,7 +18,7 @@ use Rattle.curve.proofs.Right.{decodes, rises}
 use Rattle.curve.proofs.Settings.{sourceOf, passed}
 
 -- "In the toe the scene number is the exact value times 2^24, to the nearest whole number, a half going up (towards plus). In the power
--- part it is a whole number less than 1 away from the exact value times 2^24."
+-- part it is a whole number less than .. away from the exact value times 2^24."
 pub decoding : (s : Setting) → Valid s → (n : ℕ) → n ≤ topOf (s .width) → Decodes (scaleOf s) n (decoded s n)
 decoding s v n h = decodes (curveOf s) 0 (topOf (s .width)) (topOf (s .width)) (tableOf s) (sourceOf s) (passed s v) n h
 

@@ -6,13 +6,13 @@ use mathlib.Core.Path.{_≡_, _∙_, subst}
 use Prim.Native.Nat.{ℕ, zero, suc, _+_, _-_, _*_, _/_, _%_, _^_, max, _≤_, _<_}
 use native.Mathlib.Nat.{not-suc-le-zero, le-of-suc-le-suc, le-trans, le-max-left, le-max-right}
 use native.Mathlib.Omega.{arith}
-use lib.Dec.{T, leb, ltb, leb→le, ltb→lt, eqb→eq, lit<}
+use lib.Dec.{T, leb, leb→le, eqb→eq, lit<}
 use lib.ListN.{length, getD, take, drop}
 use lib.Seq.{getD-take, getD-drop}
 use Rattle.whole.proofs.Tests.{both, both-left, both-right, nth, passes, every}
 use Rattle.rules.specs.Exact.{Scale}
-use Rattle.curve.specs.Decoded.{offset, product}
-use Rattle.curve.proofs.Tests.{Source, tests, first, bias, kappa, plus-less, minus-less, top-count, middle-count, low-count}
+use Rattle.curve.specs.Decoded.{product}
+use Rattle.curve.proofs.Tests.{Source, tests, first, bias, roomTests, top-count, middle-count, low-count}
 use Rattle.curve.proofs.Near.{Room, room-by}
 
 -- ---- lists
@@ -51,10 +51,7 @@ clear k top t =
 
 -- and the bias itself is rounded by less than 1
 abbrev biasTests : Scale → List Bool
-biasTests k =
-    ltb (2 * kappa k * (bias k - 1) + 2 * 2 ^ 24 * plus-less k * 2 ^ 29) (kappa k * (2 * offset + 1) * 2 ^ 29 + 2 * 2 ^ 24 * minus-less k * 2 ^ 29)
-    ∷ ltb (2 * kappa k * 2 ^ 29 + 4 * (2 * kappa k) + 2 * offset * kappa k * 2 ^ 29 + 2 * 2 ^ 24 * minus-less k * 2 ^ 29) (1 * kappa k * 2 ^ 29 + 2 * 2 ^ 24 * plus-less k * 2 ^ 29 + 2 * kappa k * (bias k + 5))
-    ∷ []
+biasTests k = roomTests k 1 2 (bias k - 1) (bias k + 5)
 
 abbrev pub marginTest : (k : Scale) (top : ℕ) (t : List ℕ) → Bool
 marginTest k top t = both (every (biasTests k)) (clear k top t)
@@ -138,8 +135,4 @@ module _ (k : Scale) (top : ℕ) (t : List ℕ) (s : Source) (ok : T (every (tes
 
   -- ROOM FOR A HALF: the number less 1/2 is below the exact value, and with it above
   pub room-for-half : Room k t n 1 2
-  unfolding nth
-  room-for-half =
-      room-by k top t s ok n from to 1 2 (lit< tt) (bias k - 1) (bias k + 5) (from-below (product t n) (bias k) at-code) (from-above (product t n) (bias k) at-code)
-      (ltb→lt (2 * kappa k * (bias k - 1) + 2 * 2 ^ 24 * plus-less k * 2 ^ 29) (kappa k * (2 * offset + 1) * 2 ^ 29 + 2 * 2 ^ 24 * minus-less k * 2 ^ 29) (passes (biasTests k) biased 0))
-      (ltb→lt (2 * kappa k * 2 ^ 29 + 4 * (2 * kappa k) + 2 * offset * kappa k * 2 ^ 29 + 2 * 2 ^ 24 * minus-less k * 2 ^ 29) (1 * kappa k * 2 ^ 29 + 2 * 2 ^ 24 * plus-less k * 2 ^ 29 + 2 * kappa k * (bias k + 5)) (passes (biasTests k) biased 1))
+  room-for-half = room-by k top t s ok n from to 1 2 (lit< tt) (bias k - 1) (bias k + 5) (from-below (product t n) (bias k) at-code) (from-above (product t n) (bias k) at-code) biased

@@ -1,5 +1,5 @@
 -- For every valid setting and every code from 0 to top: the decoded number is the nearest whole number to the exact value in units, and no
--- other number is. (01 asks less: a number less than one unit away.)
+-- other number is. (01 asks less: `Decodes`.)
 -- Assumes nothing.
 use mathlib.Core.Path.{_≡_}
 use Prim.Native.Nat.{ℕ, _≤_}

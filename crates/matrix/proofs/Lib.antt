@@ -1,5 +1,5 @@
 pub mod Rounding
 pub mod Split
 pub mod Greys
-pub mod TwoUnits
+pub mod Within
 pub mod Theorems

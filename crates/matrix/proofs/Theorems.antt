@@ -10,13 +10,13 @@ use Rattle.rules.specs.declared.Setting.{Setting}
 use Rattle.rules.specs.Setting.{topOf, Valid}
 use Rattle.rules.specs.Exact.{scaleOf}
 use Rattle.rules.specs.Matrix.{matrixOf, acesNumber, IsAces}
-use Rattle.rules.specs.ExactRow.{TwoUnits}
+use Rattle.rules.specs.ExactRow.{acesTolerance, WithinRow}
 use Rattle.curve.specs.Decoded.{offset, raw, decoded}
 use Rattle.curve.proofs.Close.{decoded-close}
 use Rattle.curve.proofs.Limit.{raw-limited}
 use Rattle.rows.specs.Row.{Number}
 use Rattle.matrix.proofs.Greys.{greys-stay}
-use Rattle.matrix.proofs.TwoUnits.{matrix-two-units}
+use Rattle.matrix.proofs.Within.{matrix-within}
 
 limited : (u : ℕ) → u ≤ 2 ^ 33 → natAbs (subℕ u offset) ≤ 2 ^ 33
 limited u h = omega (arith, abs-is (subℕ u offset), one-zero (subℕ u offset), sub-dif u offset)
@@ -33,8 +33,8 @@ pub equal-codes : (s : Setting) → Valid s → (n : ℕ) → n ≤ topOf (s .wi
     → IsAces (matrixOf s) (decoded s n) (decoded s n) (decoded s n) (decoded s n) (decoded s n) (decoded s n)
 equal-codes s v n h = greys-stay s (decoded s n) (decoded-number s v n h)
 
--- "each ACES number less than two units from the exact curve and matrix"
-pub aces-two-units : (s : Setting) → Valid s → (i : ℕ) → i < 3 → (r g b : ℕ) → r ≤ topOf (s .width) → g ≤ topOf (s .width) → b ≤ topOf (s .width)
-    → TwoUnits (matrixOf s) i (scaleOf s) r g b (acesNumber (matrixOf s) i (decoded s r) (decoded s g) (decoded s b))
-aces-two-units s v i h r g b hr hg hb =
-    matrix-two-units (eqb (s .curve) 3) i h (scaleOf s) r g b (decoded s r) (decoded s g) (decoded s b) (decoded-close s v r hr) (decoded-close s v g hg) (decoded-close s v b hb)
+-- "each ACES number made from it is less than .. from what the exact curve and matrix give"
+pub aces-within : (s : Setting) → Valid s → (i : ℕ) → i < 3 → (r g b : ℕ) → r ≤ topOf (s .width) → g ≤ topOf (s .width) → b ≤ topOf (s .width)
+    → WithinRow acesTolerance (matrixOf s) i (scaleOf s) r g b (acesNumber (matrixOf s) i (decoded s r) (decoded s g) (decoded s b))
+aces-within s v i h r g b hr hg hb =
+    matrix-within (eqb (s .curve) 3) i h (scaleOf s) r g b (decoded s r) (decoded s g) (decoded s b) (decoded-close s v r hr) (decoded-close s v g hg) (decoded-close s v b hb)

@@ -1,4 +1,4 @@
--- DEMAND 3, THE ARCHIVE PROMISE: equal pixel strips exactly when equal ACES strips; each ACES number less than two units from the exact
+-- DEMAND 3, THE ARCHIVE PROMISE: equal pixel strips exactly when equal ACES strips; each ACES number less than the bound from the exact
 -- curve and matrix; the way back returns the same bytes, and refuses exactly when no pixel of the setting gives the record, naming the
 -- first such record. For every strip of bytes, settings mixed.
 -- Assumes nothing.
@@ -24,7 +24,7 @@ use Rattle.rules.specs.Result.{Result, done, refusedBy, single, stripResult}
 use Rattle.rules.specs.Setting.{settingCheck}
 use Rattle.rules.specs.WayBack.{codesFound, foundCheck}
 use Rattle.rules.specs.Exact.{scaleOf}
-use Rattle.rules.specs.ExactRow.{TwoUnits}
+use Rattle.rules.specs.ExactRow.{acesTolerance, WithinRow}
 use Rattle.rules.specs.Matrix.{matrixOf, acesNumber}
 use Rattle.rules.specs.Record.{IsBytes, settingOf}
 use Rattle.rules.specs.Strip.{Conversion, recordCheck, records, recordAt, written, scanOf, answerOf, outputAfter, resultOf, stripAfter}
@@ -32,7 +32,7 @@ use Rattle.rules.proofs.Results.{number-positive, done-answer, refused-answer}
 use Rattle.rules.proofs.Settings.{code-passed, refused-never}
 use Rattle.rules.proofs.Records.{length-record}
 use Rattle.curve.specs.Decoded.{decoded}
-use Rattle.matrix.proofs.Theorems.{aces-two-units}
+use Rattle.matrix.proofs.Theorems.{aces-within}
 use Rattle.rules.specs.Contents.{pixelIn}
 use Rattle.conversion.specs.Conversions.{pixelToAces, acesToPixel}
 use Rattle.conversion.proofs.Good.{Good}
@@ -77,11 +77,11 @@ equal-strips pixels others n m a b = (λ e. ap made e, back-equal)
         (accepted-whole others n c (made others) (le-of-eq (sym (made-long others n c))))
         (sym (made-records pixels n a) ∙ e ∙ made-records others n c)
 
--- 2. "each ACES number less than two units from the exact curve and matrix"
-record-two-units : (r : List ℕ) → Good pixelToAces r → HoldsPixel r → (i : ℕ) → i < 3 → NearExact i r (pixelToAces .bytes r)
-record-two-units r g h i l =
-    subst (TwoUnits (matrixOf s) i (scaleOf s) (pixelIn r .red .0) (pixelIn r .green .0) (pixelIn r .blue .0)) (sym (number i l))
-    (aces-two-units s (h .valid) i l (pixelIn r .red .0) (pixelIn r .green .0) (pixelIn r .blue .0)
+-- 2. "each ACES number made from it is less than .. from what the exact curve and matrix give"
+record-within : (r : List ℕ) → Good pixelToAces r → HoldsPixel r → (i : ℕ) → i < 3 → NearExact i r (pixelToAces .bytes r)
+record-within r g h i l =
+    subst (WithinRow acesTolerance (matrixOf s) i (scaleOf s) (pixelIn r .red .0) (pixelIn r .green .0) (pixelIn r .blue .0)) (sym (number i l))
+    (aces-within s (h .valid) i l (pixelIn r .red .0) (pixelIn r .green .0) (pixelIn r .blue .0)
     (code-passed s (pixelIn r .red .0) (h .pixel .red)) (code-passed s (pixelIn r .green .0) (h .pixel .green)) (code-passed s (pixelIn r .blue .0) (h .pixel .blue)))
   where
     s : Setting
@@ -94,9 +94,9 @@ record-two-units r g h i l =
     number (suc (suc zero)) l = ap (λ (t : Triple). t .blue .0) (same-triple r g)
     number (suc (suc (suc i))) l = absurd (omega arith)
 
-pub strip-two-units : (pixels : List ℕ) (n : ℕ) → Accepted pixels n → (k : ℕ) → k < n → (i : ℕ) → i < 3 → NearExact i (recordAt 10 k pixels) (recordAt 28 k (made pixels))
-strip-two-units pixels n a k h i l =
-    subst (NearExact i (recordAt 10 k pixels)) (sym (made-at pixels n a k h)) (record-two-units (recordAt 10 k pixels) (accepted-good pixels n a k h) (a .each k h) i l)
+pub strip-within : (pixels : List ℕ) (n : ℕ) → Accepted pixels n → (k : ℕ) → k < n → (i : ℕ) → i < 3 → NearExact i (recordAt 10 k pixels) (recordAt 28 k (made pixels))
+strip-within pixels n a k h i l =
+    subst (NearExact i (recordAt 10 k pixels)) (sym (made-at pixels n a k h)) (record-within (recordAt 10 k pixels) (accepted-good pixels n a k h) (a .each k h) i l)
 
 -- 3. "the way back returns the same bytes": given an output long enough it turns the ACES strip into the pixel strip, and reports its number
 -- of records

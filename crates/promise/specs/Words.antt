@@ -14,7 +14,7 @@ use Rattle.rules.specs.Refusal.{then, numberOfCheck}
 use Rattle.rules.specs.Result.{Result, done, refusedBy}
 use Rattle.rules.specs.Setting.{settingCheck, Valid}
 use Rattle.rules.specs.Exact.{scaleOf}
-use Rattle.rules.specs.ExactRow.{TwoUnits}
+use Rattle.rules.specs.ExactRow.{acesTolerance, WithinRow}
 use Rattle.rules.specs.Matrix.{matrixOf}
 use Rattle.rules.specs.Record.{IsBytes, numberBytes, ofBits, settingOf, channelAt}
 use Rattle.rules.specs.Strip.{records, recordAt, written}
@@ -52,9 +52,10 @@ made = madeBy decoded
 abbrev pub numberIn : (i : ℕ) → List ℕ → ℤ
 numberIn i r = ofBits numberBytes (channelAt numberBytes r i)
 
--- the i-th number of the ACES record a is less than two units from what the exact curve and matrix give for the pixel record r
+-- "each ACES number made from it is less than .. from what the exact curve and matrix give": the i-th
+-- number of the ACES record a, for the pixel record r
 abbrev pub NearExact : (i : ℕ) → (r a : List ℕ) → Type 0
-NearExact i r a = TwoUnits (matrixOf (settingOf r)) i (scaleOf (settingOf r)) (pixelIn r .red .0) (pixelIn r .green .0) (pixelIn r .blue .0) (numberIn i a)
+NearExact i r a = WithinRow acesTolerance (matrixOf (settingOf r)) i (scaleOf (settingOf r)) (pixelIn r .red .0) (pixelIn r .green .0) (pixelIn r .blue .0) (numberIn i a)
 
 -- an ACES record that "has no valid setting or no pixel of its setting gives it"
 pub data Without (r : List ℕ) : Type 0 where

@@ -1,55 +1,46 @@
--- 01, "Decoding" and "ACES and the way back": the matrix row of three exact values. Of an exact value it is known only which fractions are
--- above it and which are below.
+-- 01, "Decoding" and "ACES and the way back": the matrix row of three exact values. Of an exact value
+-- it is known only which fractions are above it and which are below.
 -- Assumes nothing.
 use Prim.Native.Nat.{ℕ, _*_, _<_}
 use lib.IntN.{ℤ, pos, negsuc}
-use Rattle.rules.specs.Fraction.{Fraction, whole, integer, _+ℚ_, _-ℚ_, _*ℚ_, _/ℚ_, Versus}
+use Rattle.rules.specs.Fraction.{Fraction, ratio, whole, integer, _+ℚ_, _-ℚ_, _*ℚ_, _/ℚ_, Versus}
 use Rattle.rules.specs.Exact.{Scale, VersusExact}
 use Rattle.rules.specs.Decoding.{unit, Less, Greater}
 use Rattle.rules.specs.Matrix.{Matrix, entry}
 
--- y is less than one unit from the exact value at a code
-pub record Close (k : Scale) (code : ℕ) (y : ℤ) : Type 0 where
-  pub under : VersusExact Less k (whole code) ((integer y -ℚ whole 1) *ℚ unit)
-  pub over : VersusExact Greater k (whole code) ((integer y +ℚ whole 1) *ℚ unit)
-
--- "each above its exact value under a positive entry and below it under a negative one"
-abbrev pub Beyond : (entry : ℤ) → Scale → (code : ℕ) → Fraction → Type 0
-Beyond (pos e) k n p = VersusExact Greater k (whole n) p
-Beyond (negsuc e) k n p = VersusExact Less k (whole n) p
-
--- "with above and below exchanged"
-abbrev pub Short : (entry : ℤ) → Scale → (code : ℕ) → Fraction → Type 0
-Short (pos e) k n p = VersusExact Less k (whole n) p
-Short (negsuc e) k n p = VersusExact Greater k (whole n) p
+-- "less than two units from what the exact curve and matrix give": how far an ACES number may be off,
+-- in units
+abbrev pub acesTolerance : Fraction
+acesTolerance = ratio 2 1
 
 -- the matrix row of three fractions over the scale
 abbrev pub rowOver : Matrix → (i : ℕ) → (x y z : Fraction) → Fraction
 rowOver m i x y z = (integer (entry m i 0) *ℚ x +ℚ integer (entry m i 1) *ℚ y +ℚ integer (entry m i 2) *ℚ z) /ℚ whole (m .scale)
 
--- "A matrix row of three exact values is less than a number where some three fractions .. already make the row less than that number"
-pub record RowLess (m : Matrix) (i : ℕ) (k : Scale) (r g b : ℕ) (a : Fraction) : Type 0 where
+-- an order with its sides exchanged: above for below, below for above
+abbrev pub exchanged : (ℕ → ℕ → Type 0) → ℕ → ℕ → Type 0
+exchanged R m n = R n m
+
+-- how a fraction stands to its exact value, where the row is to be R, less or greater. For less it is
+-- "above its exact value under a positive entry and below it under a negative one"
+abbrev pub Side : (R : ℕ → ℕ → Type 0) → (entry : ℤ) → ℕ → ℕ → Type 0
+Side R (pos e) = exchanged R
+Side R (negsuc e) = R
+
+-- "A matrix row of three exact values is less than a number where some three fractions, each [on its
+-- side of its exact value], already make the row less than that number; greater is read likewise"
+pub record VersusRow (R : ℕ → ℕ → Type 0) (m : Matrix) (i : ℕ) (k : Scale) (r g b : ℕ) (a : Fraction) : Type 0 where
   pub x : Fraction
   pub y : Fraction
   pub z : Fraction
   pub proper : 0 < x .over * y .over * z .over
-  pub red : Beyond (entry m i 0) k r x
-  pub green : Beyond (entry m i 1) k g y
-  pub blue : Beyond (entry m i 2) k b z
-  pub less : Versus Less (rowOver m i x y z) a
+  pub red : VersusExact (Side R (entry m i 0)) k (whole r) x
+  pub green : VersusExact (Side R (entry m i 1)) k (whole g) y
+  pub blue : VersusExact (Side R (entry m i 2)) k (whole b) z
+  pub already : Versus R (rowOver m i x y z) a
 
--- "greater is read likewise"
-pub record RowGreater (m : Matrix) (i : ℕ) (k : Scale) (r g b : ℕ) (a : Fraction) : Type 0 where
-  pub x : Fraction
-  pub y : Fraction
-  pub z : Fraction
-  pub proper : 0 < x .over * y .over * z .over
-  pub red : Short (entry m i 0) k r x
-  pub green : Short (entry m i 1) k g y
-  pub blue : Short (entry m i 2) k b z
-  pub greater : Versus Greater (rowOver m i x y z) a
-
--- "less than two units from the exact curve and matrix"
-pub record TwoUnits (m : Matrix) (i : ℕ) (k : Scale) (r g b : ℕ) (aces : ℤ) : Type 0 where
-  pub above : RowLess m i k r g b ((integer aces +ℚ whole 2) *ℚ unit)
-  pub below : RowGreater m i k r g b ((integer aces -ℚ whole 2) *ℚ unit)
+-- an ACES number less than e units from "the matrix row of the three exact values": with e it is above
+-- the row, and less e below
+pub record WithinRow (e : Fraction) (m : Matrix) (i : ℕ) (k : Scale) (r g b : ℕ) (aces : ℤ) : Type 0 where
+  pub above : VersusRow Less m i k r g b ((integer aces +ℚ e) *ℚ unit)
+  pub below : VersusRow Greater m i k r g b ((integer aces -ℚ e) *ℚ unit)
