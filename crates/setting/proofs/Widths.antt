@@ -1,21 +1,15 @@
--- What the tests of the code say of the checks of the rules.
+-- The widths that there are.
 -- Assumes nothing.
-use mathlib.Core.Bool.{Bool, true, false}
-use mathlib.Core.Path.{_≡_, refl, sym, subst}
+use mathlib.Core.Bool.{Bool, true}
+use mathlib.Core.Path.{_≡_}
 use Prim.Native.Nat.{ℕ}
-use lib.Dec.{T, eqb, eqb→eq}
+use lib.Dec.{eqb, eqb→eq}
 use borrow.Author.Tests.{ne-eqb}
 use Rattle.rules.specs.Choice.{choose}
 use Rattle.rules.specs.declared.Setting.{Setting}
 use Rattle.rules.specs.Setting.{Valid}
 use Rattle.rules.proofs.Settings.{for-valid}
 
--- a test, chosen by itself
-pub itself : (x : Bool) → x ≡ choose x true false
-itself true = refl
-itself false = refl
-
--- ---- the widths that there are
 isWidth : ℕ → Bool
 isWidth w = choose (eqb w 10) true (choose (eqb w 12) true (eqb w 16))
 

@@ -1,0 +1,41 @@
+-- Which number a curve has that is named.
+-- Assumes nothing.
+use mathlib.Core.Bool.{Bool, true, false}
+use mathlib.Core.Path.{_≡_, refl}
+use Prim.Native.Nat.{ℕ}
+use native.Mathlib.Omega.{arith}
+use borrow.Author.Tests.{eqb-true, ne-eqb}
+use lib.Dec.{eqb}
+use Rattle.rules.specs.Choice.{choose, member}
+use Rattle.rules.specs.Setting.{curves}
+use Rattle.curves.specs.declared.Curve.{Curve}
+use Rattle.curves.specs.declared.Curve.the-variants.{LogC3, LogC4, Unknown}
+use Rattle.curves.specs.Named.{named}
+
+pub named-3 : (n : ℕ) → named n ≡ LogC3 → n ≡ 3
+unfolding named
+named-3 n e = go (eqb n 3) (eqb n 4) refl e
+  where
+    go : (x y : Bool) → eqb n 3 ≡ x → choose x LogC3 (choose y LogC4 Unknown) ≡ LogC3 → n ≡ 3
+    go true y p e = eqb-true n 3 p
+    go false true p e = let z : _≡_ {A = ℕ} 0 1 = cc in absurd (omega arith)
+    go false false p e = let z : _≡_ {A = ℕ} 0 1 = cc in absurd (omega arith)
+
+pub named-4 : (n : ℕ) → named n ≡ LogC4 → n ≡ 4
+unfolding named
+named-4 n e = go (eqb n 3) (eqb n 4) refl e
+  where
+    go : (x y : Bool) → eqb n 4 ≡ y → choose x LogC3 (choose y LogC4 Unknown) ≡ LogC4 → n ≡ 4
+    go x true p e = eqb-true n 4 p
+    go true false p e = let z : _≡_ {A = ℕ} 0 1 = cc in absurd (omega arith)
+    go false false p e = let z : _≡_ {A = ℕ} 0 1 = cc in absurd (omega arith)
+
+-- the number of no curve is not in the list of them
+pub named-none : (n : ℕ) → named n ≡ Unknown → member n curves ≡ false
+unfolding named
+named-none n e = go (eqb n 3) (eqb n 4) e
+  where
+    go : (x y : Bool) → choose x LogC3 (choose y LogC4 Unknown) ≡ Unknown → choose x true (choose y true false) ≡ false
+    go true y e = let z : _≡_ {A = ℕ} 0 1 = cc in absurd (omega arith)
+    go false true e = let z : _≡_ {A = ℕ} 0 1 = cc in absurd (omega arith)
+    go false false e = refl

@@ -1,0 +1,33 @@
+// The curves: which there are. The limits of each are constants of its type.
+ghost use mathlib.Core.Path.{_≡_};
+ghost use Rattle.rules.specs.Choice.{member};
+ghost use Rattle.curves.specs.Named.{named};
+
+mod lists;
+pub mod log_c3;
+pub mod log_c4;
+
+use log_c3::LogC3;
+use log_c4::LogC4;
+
+// The curve that a setting names.
+pub enum Curve {
+    LogC3,
+    LogC4,
+    Unknown,
+}
+
+impl Curve {
+    // "Curve is 3 or 4."
+    pub fn of(curve: u8) -> Curve
+        ensures { λ r. ⌜ r ≡ named curve ⌝ }
+    {
+        if curve == LogC3::NUMBER {
+            return Curve::LogC3;
+        }
+        if curve == LogC4::NUMBER {
+            return Curve::LogC4;
+        }
+        Curve::Unknown
+    }
+}
