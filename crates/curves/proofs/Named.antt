@@ -8,8 +8,8 @@ use borrow.Author.Tests.{eqb-true, ne-eqb}
 use lib.Dec.{eqb}
 use Rattle.rules.specs.Choice.{choose, member}
 use Rattle.rules.specs.Setting.{curves}
-use Rattle.curves.specs.declared.Curve.{Curve}
-use Rattle.curves.specs.declared.Curve.the-variants.{LogC3, LogC4, Unknown}
+use Rattle.curves.specs.declared.CurveName.{CurveName}
+use Rattle.curves.specs.declared.CurveName.the-variants.{LogC3, LogC4, Unknown}
 use Rattle.curves.specs.Named.{named}
 
 pub named-3 : (n : ℕ) → named n ≡ LogC3 → n ≡ 3

@@ -1,6 +1,5 @@
 // The curves: which there are. The limits of each are constants of its type.
 ghost use mathlib.Core.Path.{_≡_};
-ghost use Rattle.rules.specs.Choice.{member};
 ghost use Rattle.curves.specs.Named.{named};
 
 mod lists;
@@ -11,23 +10,23 @@ use log_c3::LogC3;
 use log_c4::LogC4;
 
 // The curve that a setting names.
-pub enum Curve {
+pub enum CurveName {
     LogC3,
     LogC4,
     Unknown,
 }
 
-impl Curve {
+impl CurveName {
     // "Curve is 3 or 4."
-    pub fn of(curve: u8) -> Curve
+    pub fn of(curve: u8) -> CurveName
         ensures { λ r. ⌜ r ≡ named curve ⌝ }
     {
         if curve == LogC3::NUMBER {
-            return Curve::LogC3;
+            return CurveName::LogC3;
         }
         if curve == LogC4::NUMBER {
-            return Curve::LogC4;
+            return CurveName::LogC4;
         }
-        Curve::Unknown
+        CurveName::Unknown
     }
 }

@@ -4,7 +4,7 @@ ghost use Rattle.rules.specs.Refusal.{numberOf, then};
 ghost use Rattle.rules.specs.declared.Refusal.the-variants.{UnknownWidth, UnknownEi};
 ghost use Rattle.rules.specs.Setting.{topOf, refuseUnless, settingCheck, codeCheck, Valid};
 ghost use Rattle.setting.specs.Same.{sameSetting};
-use curves::Curve;
+use curves::CurveName;
 use curves::log_c3::LogC3;
 use curves::log_c4::LogC4;
 use rules::Check;
@@ -47,10 +47,10 @@ fn check_limits(width: bool, ei: bool) -> Check
 pub fn check_setting(s: Setting) -> Check
     ensures { λ r. ⌜ r ≡ settingCheck s ⌝ }
 {
-    match Curve::of(s.curve) {
-        Curve::LogC3 => check_limits(LogC3::has_width(s.width), LogC3::has_ei(s.ei)),
-        Curve::LogC4 => check_limits(LogC4::has_width(s.width), LogC4::has_ei(s.ei)),
-        Curve::Unknown => Check::Refused(Refusal::UnknownCurve),
+    match CurveName::of(s.curve) {
+        CurveName::LogC3 => check_limits(LogC3::has_width(s.width), LogC3::has_ei(s.ei)),
+        CurveName::LogC4 => check_limits(LogC4::has_width(s.width), LogC4::has_ei(s.ei)),
+        CurveName::Unknown => Check::Refused(Refusal::UnknownCurve),
     }
 }
 

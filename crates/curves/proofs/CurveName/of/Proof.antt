@@ -1,9 +1,9 @@
--- `Curve::of` meets its contract: its tests are those of the definition.
+-- `CurveName::of` meets its contract: its tests are those of the definition.
 -- Assumes nothing.
 use borrow.Author.Tests.{ne-eqb}
 use Rattle.curves.specs.Named.{named}
-use Rattle.curves.proofs.Curve.of.Statement.{statement}
-use Rattle.curves.proofs.Curve.of.Tie as tie
+use Rattle.curves.proofs.CurveName.of.Statement.{statement}
+use Rattle.curves.proofs.CurveName.of.Tie as tie
 
 returns : tie.Need-returns
 unfolding named
