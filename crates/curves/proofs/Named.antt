@@ -1,13 +1,15 @@
 -- Which number a curve has that is named.
 -- Assumes nothing.
 use mathlib.Core.Bool.{Bool, true, false}
-use mathlib.Core.Path.{_≡_, refl}
+use mathlib.Core.Path.{_≡_, refl, subst}
 use Prim.Native.Nat.{ℕ}
 use native.Mathlib.Omega.{arith}
-use borrow.Author.Tests.{eqb-true, ne-eqb}
-use lib.Dec.{eqb}
+use borrow.Author.Tests.{eqb-true}
+use lib.Dec.{T, eqb}
 use Rattle.rules.specs.Choice.{choose, member}
-use Rattle.rules.specs.Setting.{curves}
+use Rattle.rules.specs.declared.Setting.{Setting}
+use Rattle.rules.specs.Setting.{curves, Valid}
+use Rattle.rules.proofs.Settings.{members}
 use Rattle.curves.specs.declared.CurveName.{CurveName}
 use Rattle.curves.specs.declared.CurveName.the-variants.{LogC3, LogC4, Unknown}
 use Rattle.curves.specs.Named.{named}
@@ -39,3 +41,7 @@ named-none n e = go (eqb n 3) (eqb n 4) e
     go true y e = let z : _≡_ {A = ℕ} 0 1 = cc in absurd (omega arith)
     go false true e = let z : _≡_ {A = ℕ} 0 1 = cc in absurd (omega arith)
     go false false e = refl
+
+-- a valid setting names one
+pub valid-named : {A : Type 0} (s : Setting) → Valid s → named (s .curve) ≡ Unknown → A
+valid-named s v e = absurd (subst T (named-none (s .curve) e) (members s v .curve))

@@ -62,7 +62,7 @@ pub fn find(s: Setting, d: Decoder, t: &[u64; 128], top: u64, y: u64) -> u64
     requires { ⌜ y < 2 ^ 62 ⌝ }
     ensures { λ r. ⌜ Found (rawBy d (now (t .entry))) top y r ⌝ }
 {
-    let first = least(guess::guess(s, d, top, y), top);
+    let first = guess::guess(s, d, top, y);
     let number = d.raw(t, first);
     if number <= y + 13 && y <= number + 13 {
         return first;
