@@ -19,11 +19,12 @@ add-result : tie.Need-add-result
 add-result c =
     record {
       fits =
-          omega
-          (arith,
-          high-small (c .args .part) (c .args .over) (c .pre .2) (c .pre .1),
-          rest-small (2 ^ 40 * c .args .part) (c .args .over) (c .pre .2) (c .pre .3),
-          div-le-self (2 ^ 40 * c .args .part % c .args .over * 8192) (c .args .over));
+          omega (
+            arith,
+            high-small (c .args .part) (c .args .over) (c .pre .2) (c .pre .1),
+            rest-small (2 ^ 40 * c .args .part) (c .args .over) (c .pre .2) (c .pre .3),
+            div-le-self (2 ^ 40 * c .args .part % c .args .over * 8192) (c .args .over),
+          );
     }
 
 returns : tie.Need-returns
