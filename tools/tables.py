@@ -41,7 +41,9 @@ class Curve:
 def curves():
     c4, c3 = constants("log_c4"), constants("log_c3")
     assert len(c3["rows"]) == c3["ROWS"], c3["rows"]
-    out = [Curve("LOGC4", None, c4["WIDTHS"], 2, c4["STOPS"] * c4["WHITE"], c4["BEGIN"] * c4["RANGE"], c4["STOPS"] * c4["BLACK"], c4["RANGE"], c4["TIMES"], c4["OVER"])]
+    plus, minus = c4["BEGIN"] * c4["RANGE"], c4["STOPS"] * c4["BLACK"]
+    rise = c4["STOPS"] * c4["WHITE"]
+    out = [Curve("LOGC4", None, c4["WIDTHS"], 2, rise, plus, minus, c4["RANGE"], c4["TIMES"], c4["OVER"])]
     for ei, k in c3["rows"].items():
         out.append(Curve(f"EI{ei}", ei, c3["WIDTHS"], 10, 10 ** 6, 0, k["d"], k["c"], 10 ** 6, c3["A"]))
     return out
@@ -162,8 +164,8 @@ def lines():
     return (
         "// The lines of the guess, one for each curve. Written by tools/tables.py.\n"
         "ghost use Prim.Native.Nat.{_^_, _<_};\n"
-        "use curves::CurveName;\n"
         "use curves::log_c3::LogC3;\n"
+        "use curves::log_c4::LogC4;\n"
         "use rules::Setting;\n"
         "\n"
         "// Above the toe a code's number, less the decoder's bias, is a number z over 2^29, and the signal is slope * log2(z) - start. The slope is\n"
@@ -183,14 +185,16 @@ def lines():
         "            _ => Line::NONE,\n"
         "        }\n"
         "    }\n\n"
-        "    // The line of a setting.\n"
+        "    // The line of a setting. (It goes by the curve's number: to name the curve first took 4 % of the\n"
+        "    // way back's time.)\n"
         "    pub fn of(s: Setting) -> Line\n"
         "        ensures { λ k. ⌜ k .slope < 2 ^ 29 ⌝ }\n"
         "    {\n"
-        "        match CurveName::of(s.curve) {\n"
-        "            CurveName::LogC3 => Line::log_c3(LogC3::row(s.ei)),\n"
-        "            CurveName::LogC4 => Line::LOG_C4,\n"
-        "            CurveName::Unknown => Line::NONE,\n"
+        "        let curve = s.curve;\n"
+        "        match curve {\n"
+        "            LogC3::NUMBER => Line::log_c3(LogC3::row(s.ei)),\n"
+        "            LogC4::NUMBER => Line::LOG_C4,\n"
+        "            _ => Line::NONE,\n"
         "        }\n"
         "    }\n"
         "}\n"

@@ -50,7 +50,8 @@ fn first_code(cut: u64, e: u64, f: u64, top: u64) -> u64
     (e * cut + 1000000 * f) * top / 1000000000000 + 1
 }
 
-// 2^53 * part / over, rounded down: 2^53 * part may be more than a word, so it is divided in two steps.
+// 2^53 * part / over, rounded down. 2^53 * part may be more than a word, so it is divided in two
+// steps.
 fn lower(part: u64, over: u64) -> u64
     requires { ⌜ (part < 2 ^ 17) × (16 * part ≤ over) × (0 < over) × (over < 2 ^ 23) ⌝ }
     ensures { λ r. ⌜ r ≡ 2 ^ 53 * part / over ⌝ }
@@ -59,7 +60,8 @@ fn lower(part: u64, over: u64) -> u64
     high / over * 8192 + high % over * 8192 / over
 }
 
-// (2^20 + 1/2 - part / over * 2^24) * 2^29, where part / over is what a power is less, times the factor.
+// (2^20 + 1/2 - part / over * 2^24) * 2^29, where part / over is what the power is less, times the
+// factor.
 fn bias(part: u64, over: u64) -> u64
     requires { ⌜ (part < 2 ^ 17) × (16 * part ≤ over) × (0 < over) × (over < 2 ^ 23) ⌝ }
     ensures { λ r. ⌜ r ≡ 2097153 * 2 ^ 28 - 2 ^ 53 * part / over ⌝ }

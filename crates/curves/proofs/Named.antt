@@ -1,9 +1,8 @@
--- Which number a curve has that is named.
+-- What the name of a curve says of its number.
 -- Assumes nothing.
 use mathlib.Core.Bool.{Bool, true, false}
 use mathlib.Core.Path.{_≡_, refl, subst}
 use Prim.Native.Nat.{ℕ}
-use native.Mathlib.Omega.{arith}
 use borrow.Author.Tests.{eqb-true}
 use lib.Dec.{T, eqb}
 use Rattle.rules.specs.Choice.{choose, member}
@@ -14,34 +13,20 @@ use Rattle.curves.specs.declared.CurveName.{CurveName}
 use Rattle.curves.specs.declared.CurveName.the-variants.{LogC3, LogC4, Unknown}
 use Rattle.curves.specs.Named.{named}
 
-pub named-3 : (n : ℕ) → named n ≡ LogC3 → n ≡ 3
-unfolding named
-named-3 n e = go (eqb n 3) (eqb n 4) refl e
-  where
-    go : (x y : Bool) → eqb n 3 ≡ x → choose x LogC3 (choose y LogC4 Unknown) ≡ LogC3 → n ≡ 3
-    go true y p e = eqb-true n 3 p
-    go false true p e = let z : _≡_ {A = ℕ} 0 1 = cc in absurd (omega arith)
-    go false false p e = let z : _≡_ {A = ℕ} 0 1 = cc in absurd (omega arith)
+abbrev pub HasName : ℕ → CurveName → Type 0
+HasName n LogC3 = n ≡ 3
+HasName n LogC4 = n ≡ 4
+HasName n Unknown = member n curves ≡ false
 
-pub named-4 : (n : ℕ) → named n ≡ LogC4 → n ≡ 4
+pub has-name : (n : ℕ) {c : CurveName} → named n ≡ c → HasName n c
 unfolding named
-named-4 n e = go (eqb n 3) (eqb n 4) refl e
+has-name n e = subst (HasName n) e (go (eqb n 3) (eqb n 4) refl refl)
   where
-    go : (x y : Bool) → eqb n 4 ≡ y → choose x LogC3 (choose y LogC4 Unknown) ≡ LogC4 → n ≡ 4
-    go x true p e = eqb-true n 4 p
-    go true false p e = let z : _≡_ {A = ℕ} 0 1 = cc in absurd (omega arith)
-    go false false p e = let z : _≡_ {A = ℕ} 0 1 = cc in absurd (omega arith)
+    go : (x y : Bool) → eqb n 3 ≡ x → eqb n 4 ≡ y → HasName n (choose x LogC3 (choose y LogC4 Unknown))
+    go true y p q = eqb-true n 3 p
+    go false true p q = eqb-true n 4 q
+    go false false p q = rw (p, q)
 
--- the number of no curve is not in the list of them
-pub named-none : (n : ℕ) → named n ≡ Unknown → member n curves ≡ false
-unfolding named
-named-none n e = go (eqb n 3) (eqb n 4) e
-  where
-    go : (x y : Bool) → choose x LogC3 (choose y LogC4 Unknown) ≡ Unknown → choose x true (choose y true false) ≡ false
-    go true y e = let z : _≡_ {A = ℕ} 0 1 = cc in absurd (omega arith)
-    go false true e = let z : _≡_ {A = ℕ} 0 1 = cc in absurd (omega arith)
-    go false false e = refl
-
--- a valid setting names one
+-- a valid setting names a curve
 pub valid-named : {A : Type 0} (s : Setting) → Valid s → named (s .curve) ≡ Unknown → A
-valid-named s v e = absurd (subst T (named-none (s .curve) e) (members s v .curve))
+valid-named s v e = absurd (subst T (has-name (s .curve) e) (members s v .curve))

@@ -21,12 +21,10 @@ impl CurveName {
     pub fn of(curve: u8) -> CurveName
         ensures { λ r. ⌜ r ≡ named curve ⌝ }
     {
-        if curve == LogC3::NUMBER {
-            return CurveName::LogC3;
+        match curve {
+            LogC3::NUMBER => CurveName::LogC3,
+            LogC4::NUMBER => CurveName::LogC4,
+            _ => CurveName::Unknown,
         }
-        if curve == LogC4::NUMBER {
-            return CurveName::LogC4;
-        }
-        CurveName::Unknown
     }
 }

@@ -1,4 +1,5 @@
-// Curve 3: its number, its widths, its EIs, and at each EI its limits and constants, from the table of 01, in millionths.
+// Curve 3: its number, its widths, its EIs, and its constants at each EI, from the table of 01, in
+// millionths.
 ghost use mathlib.Core.Path.{_≡_};
 ghost use Rattle.rules.specs.Choice.{member};
 ghost use Rattle.rules.specs.Curve.{a, constantsAt, rows};
@@ -156,7 +157,8 @@ impl LogC3 {
         lists::is_one_of(&widths, width)
     }
 
-    // The row of an EI in the table of constants, from 0; the count of rows where it has none.
+    // The row of an EI in the table of constants, from 0, and their count where it has none. The one
+    // list of the EIs: what else there is for an EI is found by its row.
     pub fn row(ei: u16) -> usize
         ensures { λ r. ⌜ r ≡ rowOf ei ⌝ }
     {

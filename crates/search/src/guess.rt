@@ -72,7 +72,8 @@ fn in_toe(d: Decoder, y: u64) -> u64
     (rise - toe + 16777216000000) / 33554432000000
 }
 
-// The code of y, but for some codes, or a code above top. (The numbers of the toe are below 2^21, and all are below 2^33.)
+// The code of y, but for some codes; it may be above top. (The numbers of the toe are below 2^21, and
+// all are below 2^33.)
 fn on_curve(s: Setting, d: Decoder, top: u64, y: u64) -> u64
     requires { ⌜ top < 2 ^ 16 ⌝ }
 {

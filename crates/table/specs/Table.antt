@@ -70,6 +70,7 @@ tableFor LogC3 width ei = byWidth width (logC3Table 10 (rowOf ei)) (logC3Table 1
 tableFor LogC4 width ei = logC4Table width
 tableFor Unknown width ei = zeros 128
 
--- the table of a setting; for a setting that is not valid, one of another width or EI of its curve, and for no curve none
+-- the table of a setting. (A setting that is not valid has one of another width or EI of its curve,
+-- and zeros where it names no curve.)
 unfoldable pub tableOf : Setting → List ℕ
 tableOf s = tableFor (named (s .curve)) (s .width) (s .ei)

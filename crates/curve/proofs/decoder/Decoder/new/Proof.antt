@@ -3,7 +3,7 @@
 use mathlib.Core.Path.{_≡_, sym, ap, _∙_, subst}
 use Prim.Native.Nat.{ℕ, _^_, _<_}
 use borrow.Author.Needs.{needs}
-use Rattle.curves.proofs.Named.{named-3, named-4, valid-named}
+use Rattle.curves.proofs.Named.{has-name, valid-named}
 use Rattle.curve.specs.Constants.{Small}
 use Rattle.curve.specs.Decoded.{decoderOf}
 use Rattle.curve.proofs.Program.{constants-small, top-small, scale-is}
@@ -14,19 +14,19 @@ log-c3-requires : tie.Need-log-c3-requires
 log-c3-requires c κs =
     let told = c .before .before in
     let s = told .before .before .before in
-    (c .before .at .ensures .0, (subst Small (sym (c .before .at .ensures .1)) (constants-small (s .args .s) (s .pre) (named-3 _ (sym (told .before .before .of .ensures) ∙ told .enum-told .given .1))), subst (λ (n : ℕ). n < 2 ^ 16) (sym (c .top-code .ensures)) (top-small (s .args .s) (s .pre))))
+    (c .before .at .ensures .0, (subst Small (sym (c .before .at .ensures .1)) (constants-small (s .args .s) (s .pre) (has-name _ (sym (told .before .before .of .ensures) ∙ told .enum-told .given .1))), subst (λ (n : ℕ). n < 2 ^ 16) (sym (c .top-code .ensures)) (top-small (s .args .s) (s .pre))))
 
 returns : tie.Need-returns
 returns c =
     let told = c .before .before .before in
     let s = told .before .before .before in
     c .log-c3 .ensures
-    ∙ ap decoderOf (scale-is (s .args .s) _ _ (named-3 _ (sym (told .before .before .of .ensures) ∙ told .enum-told .given .1)) (c .before .before .at .ensures .1) (c .before .top-code .ensures))
+    ∙ ap decoderOf (scale-is (s .args .s) _ _ (has-name _ (sym (told .before .before .of .ensures) ∙ told .enum-told .given .1)) (c .before .before .at .ensures .1) (c .before .top-code .ensures))
 
 returns-2 : tie.Need-returns-2
 returns-2 c =
     let told = c .before .before in
-    rw (named-4 _ (sym (told .before .before .of .ensures) ∙ told .enum-told2 .given .1)) (c .log-c4 .ensures)
+    rw (has-name _ (sym (told .before .before .of .ensures) ∙ told .enum-told2 .given .1)) (c .log-c4 .ensures)
 
 returns-3 : tie.Need-returns-3
 returns-3 c =
