@@ -3,7 +3,7 @@
 (crates/table/src/values.rt) and the lines of the search's guess (crates/search/src/lines.rt), or with --check say whether the committed
 files are what this prints.
 
-The decimals are read from the rules (crates/rules/specs/Curve.antt), so that they stand in one place. A seed is a power with
+The numbers are the associated constants of the curves' types (crates/curves/src), which are proved to be those of the rules. A seed is a power with
 a fractional exponent at the scale 2^128, rounded down, and lowered until repeated squaring with rounding shows that it is
 not above the power; the proofs run the same squaring (crates/power/proofs/Certificate.antt)."""
 import re, sys
@@ -17,11 +17,16 @@ SHIFT = {10: 2 ** 13, 12: 2 ** 3, 16: 1}  # 2^63 over the scale of the middle di
 getcontext().prec = 120
 
 
-def rows():
-    text = (ROOT / "crates/rules/specs/Curve.antt").read_text()
-    found = re.findall(r"\brow (\d+) ([\d_]+) ([\d_]+) ([\d_]+) ([\d_]+) ([\d_]+) ([\d_]+)\n", text)
-    assert len(found) == 11, found
-    return [[int(x.replace("_", "")) for x in r] for r in found]
+def constants(module):
+    """the associated constants of a curve's type: its numbers, its lists, and its rows of named numbers by EI"""
+    text = (ROOT / f"crates/curves/src/{module}.rt").read_text()
+    number = lambda x: int(x.replace("_", ""))
+    out = {name: number(x) for name, x in re.findall(r"pub const (\w+): \w+ = ([\d_]+);", text)}
+    for name, xs in re.findall(r"pub const (\w+): \[\w+; \d+\] = \[([\d, ]+)\];", text):
+        out[name] = [number(x) for x in xs.split(",")]
+    rows = re.findall(r"pub const EI_(\d+): \w+ = \w+ \{([^}]*)\}", text)
+    out["rows"] = {int(ei): {k: number(x) for k, x in re.findall(r"(\w+): ([\d_]+),", row)} for ei, row in rows}
+    return out
 
 
 class Curve:
@@ -34,9 +39,13 @@ class Curve:
 
 
 def curves():
-    out = [Curve("LOGC4", 0, (12, 16), 2, 14 * 1023, 6 * 928, 14 * 95, 928, 783, 1747520)]
-    for ei, cut, b, c, d, e, f in rows():
-        out.append(Curve(f"EI{ei}", ei, (10, 12, 16), 10, 10 ** 6, 0, d, c, 10 ** 6, 5555556))
+    c4, c3 = constants("log_c4"), constants("log_c3")
+    assert len(c3["rows"]) == c3["ROWS"], c3["rows"]
+    plus, minus = c4["BEGIN"] * c4["RANGE"], c4["STOPS"] * c4["BLACK"]
+    rise = c4["STOPS"] * c4["WHITE"]
+    out = [Curve("LOGC4", None, c4["WIDTHS"], 2, rise, plus, minus, c4["RANGE"], c4["TIMES"], c4["OVER"])]
+    for ei, k in c3["rows"].items():
+        out.append(Curve(f"EI{ei}", ei, c3["WIDTHS"], 10, 10 ** 6, 0, k["d"], k["c"], 10 ** 6, c3["A"]))
     return out
 
 
@@ -107,7 +116,7 @@ def written():
             ratios.append(ratio)
             entries = "".join(f"    {x},\n" for x in table(c, w, front, first, ratio))
             consts.append(f"\npub const {c.name}_W{w}: [u64; 128] = [\n{entries}];\n")
-        seeds.append(f"seed {c.ei} {front} {first} {ratios[0]} {ratios[1]} {ratios[2]}")
+        seeds.append(f"seed {front} {first} {ratios[0]} {ratios[1]} {ratios[2]}")
     antt = (
         "-- The numbers that the tables are computed from. Written by tools/tables.py.\n"
         "-- Assumes nothing.\n"
@@ -117,16 +126,16 @@ def written():
         "-- At the scale 2 ^ 128, rounded down: base ^ (exponent at signal 0, and 2) is base ^ front * first; the ratio of a code's power to\n"
         "-- the power of the code before it, at the widths 10, 12 and 16 (0: no such width).\n"
         "pub record Seed : Type 0 where\n"
-        "  pub ei : ℕ\n  pub front : ℕ\n  pub first : ℕ\n  pub ratio10 : ℕ\n  pub ratio12 : ℕ\n  pub ratio16 : ℕ\n"
+        "  pub front : ℕ\n  pub first : ℕ\n  pub ratio10 : ℕ\n  pub ratio12 : ℕ\n  pub ratio16 : ℕ\n"
         "\n"
-        "abbrev pub seed : (ei front first ratio10 ratio12 ratio16 : ℕ) → Seed\n"
-        "seed ei front first ratio10 ratio12 ratio16 =\n"
-        "    record { ei = ei; front = front; first = first; ratio10 = ratio10; ratio12 = ratio12; ratio16 = ratio16 }\n"
+        "abbrev pub seed : (front first ratio10 ratio12 ratio16 : ℕ) → Seed\n"
+        "seed front first ratio10 ratio12 ratio16 =\n"
+        "    record { front = front; first = first; ratio10 = ratio10; ratio12 = ratio12; ratio16 = ratio16 }\n"
         "\n"
         "abbrev pub logC4Seed : Seed\n"
         f"logC4Seed = {seeds[0]}\n"
         "\n"
-        "-- curve 3: the first EI, and the others\n"
+        "-- curve 3: that of the first row, and those of the others\n"
         "abbrev pub logC3First : Seed\n"
         f"logC3First = {seeds[1]}\n"
         "\n"
@@ -147,14 +156,17 @@ def line(curve):
 
 def lines():
     consts, arms = "", ""
-    for c in curves():
-        name = "LOG_C4" if c.ei == 0 else c.name
+    for i, c in enumerate(curves()):
+        name = "LOG_C4" if c.ei is None else c.name
         slope, start = line(c)
         consts += f"    pub const {name}: Line = Line {{\n        slope: {slope},\n        start: {start},\n    }};\n\n"
-        arms += f"            {c.ei} => Line::{name},\n" if c.ei else ""
+        arms += f"            {i - 1} => Line::{name},\n" if i else ""
     return (
         "// The lines of the guess, one for each curve. Written by tools/tables.py.\n"
         "ghost use Prim.Native.Nat.{_^_, _<_};\n"
+        "use curves::log_c3::LogC3;\n"
+        "use curves::log_c4::LogC4;\n"
+        "use rules::Setting;\n"
         "\n"
         "// Above the toe a code's number, less the decoder's bias, is a number z over 2^29, and the signal is slope * log2(z) - start. The slope is\n"
         "// in units of 2^-32, the start in units of 2^-48.\n"
@@ -162,13 +174,27 @@ def lines():
         "\n"
         "impl Line {\n"
         f"{consts}"
-        "    // The line of an EI. Curve 4's EI is 0.\n"
-        "    pub fn of(ei: u16) -> Line\n"
+        "    // of no curve\n"
+        "    pub const NONE: Line = Line { slope: 0, start: 0 };\n\n"
+        "    // The line of a row of curve 3's constants.\n"
+        "    fn log_c3(row: usize) -> Line\n"
         "        ensures { λ k. ⌜ k .slope < 2 ^ 29 ⌝ }\n"
         "    {\n"
-        "        match ei {\n"
+        "        match row {\n"
         f"{arms}"
-        "            _ => Line::LOG_C4,\n"
+        "            _ => Line::NONE,\n"
+        "        }\n"
+        "    }\n\n"
+        "    // The line of a setting. (It goes by the curve's number: to name the curve first took 4 % of the\n"
+        "    // way back's time.)\n"
+        "    pub fn of(s: Setting) -> Line\n"
+        "        ensures { λ k. ⌜ k .slope < 2 ^ 29 ⌝ }\n"
+        "    {\n"
+        "        let curve = s.curve;\n"
+        "        match curve {\n"
+        "            LogC3::NUMBER => Line::log_c3(LogC3::row(s.ei)),\n"
+        "            LogC4::NUMBER => Line::LOG_C4,\n"
+        "            _ => Line::NONE,\n"
         "        }\n"
         "    }\n"
         "}\n"

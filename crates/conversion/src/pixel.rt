@@ -47,7 +47,7 @@ fn scene_at(s: Setting, d: Decoder, t: &[u64; 128], r: &[u8], at: usize) -> Scen
     requires { ⌜ codeCheck s (value (take 2 (drop at (now r)))) ≡ Passed ⌝ }
     ensures { λ y. ⌜ y .0 ≡ decoded s (value (take 2 (drop at (now (r .entry))))) ⌝ }
 {
-    d.scene(t, numbers::word_at(r, at) as u64)
+    d.scene(t, Code(numbers::word_at(r, at)))
 }
 
 // What is written for a record: its setting and scene numbers.

@@ -7,6 +7,7 @@ pub mod Toe
 pub mod Right
 pub mod Settings
 pub mod Theorems
+mod Quotient
 pub mod Program
 pub mod Fit
 pub mod Limit

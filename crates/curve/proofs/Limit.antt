@@ -15,13 +15,15 @@ use Rattle.rules.specs.declared.Check.the-variants.{Passed}
 use Rattle.rules.specs.Setting.{topOf, Valid}
 use Rattle.rules.specs.Encoding.{sceneCheck}
 use Rattle.rules.proofs.Settings.{forSettings, for-valid}
+use Rattle.curves.specs.Named.{named}
+use Rattle.curves.specs.LogC3.{rowOf}
 use Rattle.table.specs.Table.{tableOf, logC3Table, logC4Table}
 use Rattle.curve.specs.Decoded.{offset, rawBy, raw, decoded}
 use Rattle.curve.proofs.Theorems.{raw-rises}
 
 -- computed for all the settings
 all-limited : T (forSettings (λ c w e. leb (raw (record { curve = c; width = w; ei = e }) (topOf w)) (2 ^ 33)))
-unfolding tableOf logC3Table logC4Table rawBy
+unfolding tableOf logC3Table logC4Table rawBy named rowOf
 all-limited = tt
 
 top-limited : (s : Setting) → Valid s → raw s (topOf (s .width)) ≤ 2 ^ 33

@@ -16,11 +16,14 @@ use Rattle.whole.proofs.Reflect.{at, sub}
 use Rattle.whole.proofs.Tidy.{tidy}
 use Rattle.whole.proofs.Words.{fitsZ, readBack, read-back}
 use Rattle.rules.specs.Choice.{choose}
-use Rattle.rules.specs.Curve.{Constants, logC3, constantsAt, rows}
+use Rattle.rules.specs.Fraction.{Fraction}
+use Rattle.rules.specs.Curve.{Constants, logC3, logC4, a, constantsAt, rows}
 use Rattle.rules.specs.Setting.{topOf, Valid}
 use Rattle.rules.specs.Exact.{Scale, scaleOf}
 use Rattle.rules.proofs.Settings.{for-valid}
 use Rattle.whole.proofs.Tests.{both, both-left, both-right}
+use Rattle.curves.specs.declared.log_c4.LogC4.{LogC4}
+use Rattle.curves.specs.LogC4.{IsLogC4}
 use Rattle.curve.specs.Constants.{Small}
 use Rattle.rules.specs.declared.Setting.{Setting}
 use Rattle.curve.specs.declared.decoder.Decoder.{Decoder}
@@ -30,17 +33,27 @@ use Rattle.curve.specs.Decoded.{offset, product, toeRaw, powerRaw, rawBy
 pub first-is : (k : Constants) (top : ℕ) → (k .e * k .cut + 1000000 * k .f) * top / 10 ^ 12 + 1 ≡ firstOf (logC3 k) 0 top
 first-is k top = omega arith
 
-pub bias-is : (k : Constants) → 2097153 * 2 ^ 28 - 2 ^ 53 * k .b / 5555556 ≡ biasOf (logC3 k)
+pub bias-is : (k : Constants) → 2097153 * 2 ^ 28 - 2 ^ 53 * k .b / a ≡ biasOf (logC3 k)
 bias-is k = simp tidy (omega arith)
 
 pub toe-is : (k : Constants) (top : ℕ) → k .e * top * 2097153 - 2 ^ 25 * (k .f * top) ≡ toeOf (logC3 k) 0 top
 toe-is k top = omega arith
 
 pub decoder-is : (k : Constants) (top first bias toe over : ℕ) → first ≡ (k .e * k .cut + 1000000 * k .f) * top / 10 ^ 12 + 1
-    → bias ≡ 2097153 * 2 ^ 28 - 2 ^ 53 * k .b / 5555556 → toe ≡ k .e * top * 2097153 - 2 ^ 25 * (k .f * top) → over ≡ 2 * (k .e * top)
+    → bias ≡ 2097153 * 2 ^ 28 - 2 ^ 53 * k .b / a → toe ≡ k .e * top * 2097153 - 2 ^ 25 * (k .f * top) → over ≡ 2 * (k .e * top)
     → _≡_ {A = Decoder} (record { first = first; bias = bias; toe = toe; over = over }) (decoderOf (record { curve = logC3 k; start = 0; span = top }))
 decoder-is k top first bias toe over f b t o = cc (first-is k top, bias-is k, toe-is k top)
 
+-- ---- the numbers of curve 4's decoder
+pub numbers-are : (k : LogC4) → IsLogC4 k → (k .less ≡ 64) × (k .times ≡ 783) × (k .over ≡ 1747520)
+numbers-are k i =
+    (ap (λ (x : Fraction). x .plus) (sym (i .less-is)), ap (λ (x : Fraction). x .plus) (sym (i .factor-is)), ap (λ (x : Fraction). x .over) (sym (i .factor-is)))
+
+pub decoder-is-4 : (less times over bias : ℕ) → less ≡ 64 → times ≡ 783 → over ≡ 1747520 → bias ≡ 2097153 * 2 ^ 28 - 2 ^ 53 * (less * times) / over
+    → _≡_ {A = Decoder} (record { first = 0; bias = bias; toe = 0; over = 0 }) (decoderOf (record { curve = logC4; start = 0; span = 0 }))
+decoder-is-4 less times over bias l t o e = rw (e, l, t, o)
+
+-- ---- the scale of a setting
 pub scale-is : (s : Setting) (k : Constants) (top : ℕ) → s .curve ≡ 3 → k ≡ constantsAt (s .ei) rows → top ≡ topOf (s .width)
     → _≡_ {A = Scale} (record { curve = logC3 k; start = 0; span = top }) (scaleOf s)
 scale-is s k top e f g = rw (e, f, g)

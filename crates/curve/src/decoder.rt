@@ -1,12 +1,17 @@
 // Decoding with what is kept of a setting: a decoder and a table.
 ghost use mathlib.Core.Path.{_≡_};
 ghost use Prim.Native.Nat.{_+_, _-_, _*_, _/_, _^_, _≤_, _<_};
-ghost use Rattle.rules.specs.Curve.{logC3};
+ghost use Rattle.rules.specs.Curve.{logC3, logC4, a};
 ghost use Rattle.rules.specs.Setting.{Valid};
 ghost use Rattle.rules.specs.Exact.{scaleOf};
-ghost use Rattle.curve.specs.Constants.{constantsOf, Small};
+ghost use Rattle.curves.specs.LogC3.{constantsOf};
+ghost use Rattle.curves.specs.LogC4.{IsLogC4};
+ghost use Rattle.curve.specs.Constants.{Small};
 ghost use Rattle.curve.specs.Decoded.{product, rawBy, decodedBy, decoderOf, Fits};
-use super::constants::Curve;
+use curves::CurveName;
+use curves::log_c3::LogC3;
+use curves::log_c4::LogC4;
+use rules::Code;
 use rules::Scene;
 use rules::Setting;
 
@@ -45,21 +50,23 @@ fn first_code(cut: u64, e: u64, f: u64, top: u64) -> u64
     (e * cut + 1000000 * f) * top / 1000000000000 + 1
 }
 
-// 2^53 * b / a, rounded down: 2^53 * b may be more than a word, so it is divided in two steps.
-fn lower(b: u64) -> u64
-    requires { ⌜ b < 2 ^ 17 ⌝ }
-    ensures { λ r. ⌜ r ≡ 2 ^ 53 * b / 5555556 ⌝ }
+// 2^53 * part / over, rounded down. 2^53 * part may be more than a word, so it is divided in two
+// steps.
+fn lower(part: u64, over: u64) -> u64
+    requires { ⌜ (part < 2 ^ 17) × (16 * part ≤ over) × (0 < over) × (over < 2 ^ 23) ⌝ }
+    ensures { λ r. ⌜ r ≡ 2 ^ 53 * part / over ⌝ }
 {
-    let high = 1099511627776 * b;
-    high / Curve::A * 8192 + high % Curve::A * 8192 / Curve::A
+    let high = 1099511627776 * part;
+    high / over * 8192 + high % over * 8192 / over
 }
 
-// (2^20 + 1/2 - b / a * 2^24) * 2^29.
-fn bias(b: u64) -> u64
-    requires { ⌜ b < 2 ^ 17 ⌝ }
-    ensures { λ r. ⌜ r ≡ 2097153 * 2 ^ 28 - 2 ^ 53 * b / 5555556 ⌝ }
+// (2^20 + 1/2 - part / over * 2^24) * 2^29, where part / over is what the power is less, times the
+// factor.
+fn bias(part: u64, over: u64) -> u64
+    requires { ⌜ (part < 2 ^ 17) × (16 * part ≤ over) × (0 < over) × (over < 2 ^ 23) ⌝ }
+    ensures { λ r. ⌜ r ≡ 2097153 * 2 ^ 28 - 2 ^ 53 * part / over ⌝ }
 {
-    HALVES * 268435456 - lower(b)
+    HALVES * 268435456 - lower(part, over)
 }
 
 // (2^20 + 1/2) * 2 * e * top, less 2^25 * f * top.
@@ -78,25 +85,39 @@ fn toe_divisor(e: u64, top: u64) -> u64
 }
 
 impl Decoder {
-    // Curve 4 has no toe.
-    pub const LOG_C4: Decoder = Decoder {
+    // of no curve
+    pub const NONE: Decoder = Decoder {
         first: 0,
-        bias: 304659175657823,
+        bias: 0,
         toe: 0,
         over: 0,
     };
 
     // Curve 3 at a top code.
-    fn log_c3(k: Curve, top: u64) -> Decoder
+    fn log_c3(k: LogC3, top: u64) -> Decoder
+        requires { ⌜ k .a ≡ a ⌝ }
         requires { ⌜ Small (constantsOf k) ⌝ }
         requires { ⌜ top < 2 ^ 16 ⌝ }
         ensures { λ r. ⌜ r ≡ decoderOf (record { curve = logC3 (constantsOf k); start = 0; span = top }) ⌝ }
     {
         Decoder {
             first: first_code(k.cut, k.e, k.f, top),
-            bias: bias(k.b),
+            bias: bias(k.b, k.a),
             toe: toe_added(k.e, k.f, top),
             over: toe_divisor(k.e, top),
+        }
+    }
+
+    // Curve 4, which has no toe, and so one decoder at every top code.
+    fn log_c4(k: LogC4) -> Decoder
+        requires { ⌜ IsLogC4 k ⌝ }
+        ensures { λ r. ⌜ r ≡ decoderOf (record { curve = logC4; start = 0; span = 0 }) ⌝ }
+    {
+        Decoder {
+            first: 0,
+            bias: bias(k.less * k.times, k.over),
+            toe: 0,
+            over: 0,
         }
     }
 
@@ -105,10 +126,10 @@ impl Decoder {
         requires { ⌜ Valid s ⌝ }
         ensures { λ r. ⌜ r ≡ decoderOf (scaleOf s) ⌝ }
     {
-        if s.curve == 3 {
-            Decoder::log_c3(Curve::log_c3(s.ei), setting::top_code(s) as u64)
-        } else {
-            Decoder::LOG_C4
+        match CurveName::of(s.curve) {
+            CurveName::LogC3 => Decoder::log_c3(LogC3::at(s.ei), setting::top_code(s) as u64),
+            CurveName::LogC4 => Decoder::log_c4(LogC4::new()),
+            CurveName::Unknown => Decoder::NONE,
         }
     }
 
@@ -127,10 +148,10 @@ impl Decoder {
     }
 
     // The scene number of a code.
-    pub fn scene(self, t: &[u64; 128], n: u64) -> Scene
-        requires { ⌜ Fits self (now t) n ⌝ }
-        ensures { λ r. ⌜ r .0 ≡ decodedBy self (now (t .entry)) n ⌝ }
+    pub fn scene(self, t: &[u64; 128], n: Code) -> Scene
+        requires { ⌜ Fits self (now t) (n .0) ⌝ }
+        ensures { λ r. ⌜ r .0 ≡ decodedBy self (now (t .entry)) (n .0) ⌝ }
     {
-        Scene(self.raw(t, n) as i64 - OFFSET)
+        Scene(self.raw(t, n.0 as u64) as i64 - OFFSET)
     }
 }

@@ -8,7 +8,6 @@ ghost use Rattle.rules.specs.Setting.{codeCheck, Valid};
 ghost use Rattle.curve.specs.Decoded.{decoded};
 ghost use Rattle.curve.specs.Answer.{decodingResult, decodeResult};
 
-pub mod constants;
 pub mod decoder;
 
 use decoder::Decoder;
@@ -33,7 +32,7 @@ fn decode_valid(s: Setting, n: Code) -> Decoding
         Check::Passed => {
             let d = Decoder::new(s);
             let t = table::table(s);
-            Decoding::Scene(d.scene(&t, n.0 as u64))
+            Decoding::Scene(d.scene(&t, n))
         }
     }
 }

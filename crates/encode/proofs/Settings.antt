@@ -6,6 +6,8 @@ use Rattle.rules.specs.declared.Setting.{Setting}
 use Rattle.rules.specs.Setting.{Valid}
 use Rattle.rules.specs.Exact.{scaleOf}
 use Rattle.rules.proofs.Settings.{forSettings, for-valid}
+use Rattle.curves.specs.Named.{named}
+use Rattle.curves.specs.LogC3.{rowOf}
 use Rattle.table.specs.Table.{logC3Table, logC4Table, tableOf}
 use Rattle.curve.specs.Decoded.{rawBy}
 use Rattle.whole.proofs.Tests.{every}
@@ -17,7 +19,7 @@ test s = every (thirdTests (scaleOf s) (tableOf s) (sourceOf s))
 
 -- computed for all the settings
 all-pass : T (forSettings (λ c w e. test (record { curve = c; width = w; ei = e })))
-unfolding tableOf logC3Table logC4Table rawBy
+unfolding tableOf logC3Table logC4Table rawBy named rowOf
 all-pass = tt
 
 pub thirds-passed : (s : Setting) → Valid s → T (every (thirdTests (scaleOf s) (tableOf s) (sourceOf s)))

@@ -57,7 +57,7 @@ fn float_at(s: Setting, d: Decoder, t: &[u64; 128], n: Code) -> f64
     requires { ⌜ codeCheck s (n .0) ≡ Passed ⌝ }
     ensures { λ x. ⌜ x ≡ floatOf (decoded s (n .0)) ⌝ }
 {
-    units::float_of(d.scene(t, n.0 as u64))
+    units::float_of(d.scene(t, n))
 }
 
 fn floats_of(s: Setting, d: Decoder, t: &[u64; 128], p: Pixel) -> FloatPixel

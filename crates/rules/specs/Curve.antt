@@ -7,7 +7,11 @@ use lib.Dec.{eqb}
 use Rattle.rules.specs.Choice.{choose}
 use Rattle.rules.specs.Fraction.{Fraction, ratio, whole, millionths, _+ℚ_, _-ℚ_, _*ℚ_, _/ℚ_, atMost}
 
--- the constants of curve 3 at one EI, in millionths
+-- "Always a = 5.555556", in millionths
+abbrev pub a : ℕ
+a = 5_555556
+
+-- the other constants of curve 3 at one EI, in millionths
 pub record Constants : Type 0 where
   pub cut : ℕ
   pub b : ℕ
@@ -68,14 +72,14 @@ abbrev pub exponent : Curve → Fraction → Fraction
 exponent logC4 t = whole 6 +ℚ whole 14 *ℚ (whole 1023 *ℚ t -ℚ whole 95) /ℚ whole 928
 exponent (logC3 k) t = (t -ℚ millionths (k .d)) /ℚ millionths (k .c)
 
--- "(2^P - 64) · 783 / 1747520"; "(10^((t - d) / c) - b) / a", "Always a = 5.555556"
+-- "(2^P - 64) · 783 / 1747520"; "(10^((t - d) / c) - b) / a"
 abbrev pub less : Curve → Fraction
 less logC4 = whole 64
 less (logC3 k) = millionths (k .b)
 
 abbrev pub factor : Curve → Fraction
 factor logC4 = ratio 783 1747520
-factor (logC3 k) = whole 1 /ℚ millionths 5_555556
+factor (logC3 k) = whole 1 /ℚ millionths a
 
 -- "if t > e·cut + f .. (power part), else .. (toe)": "The product e·cut + f decides". Curve 4 has no toe.
 abbrev pub border : Constants → Fraction

@@ -1,6 +1,7 @@
 // A guess at the code of a number y, which has the offset. Nothing but speed rests on it: the search ends at the same code wherever it begins.
 // (The remainders change no number that occurs. They show that products fit words.)
 ghost use Prim.Native.Nat.{_^_, _≤_, _<_};
+use super::least;
 use super::lines::Line;
 use curve::decoder::Decoder;
 use rules::Setting;
@@ -71,8 +72,9 @@ fn in_toe(d: Decoder, y: u64) -> u64
     (rise - toe + 16777216000000) / 33554432000000
 }
 
-// The code of y, but for some codes. (The numbers of the toe are below 2^21, and all are below 2^33.)
-pub fn guess(s: Setting, d: Decoder, top: u64, y: u64) -> u64
+// The code of y, but for some codes; it may be above top. (The numbers of the toe are below 2^21, and
+// all are below 2^33.)
+fn on_curve(s: Setting, d: Decoder, top: u64, y: u64) -> u64
     requires { ⌜ top < 2 ^ 16 ⌝ }
 {
     if y < 2097152 {
@@ -84,5 +86,13 @@ pub fn guess(s: Setting, d: Decoder, top: u64, y: u64) -> u64
     if 8589934592 <= y {
         return top;
     }
-    above_toe(Line::of(s.ei), d, top, y)
+    above_toe(Line::of(s), d, top, y)
+}
+
+// The code of y, but for some codes.
+pub fn guess(s: Setting, d: Decoder, top: u64, y: u64) -> u64
+    requires { ⌜ top < 2 ^ 16 ⌝ }
+    ensures { λ r. ⌜ r ≤ top ⌝ }
+{
+    least(on_curve(s, d, top, y), top)
 }

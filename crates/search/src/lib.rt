@@ -64,7 +64,7 @@ pub fn find(s: Setting, d: Decoder, t: &[u64; 128], top: Code, y: u64) -> Code
     ensures { λ r. ⌜ Found (rawBy d (now (t .entry))) (top .0) y (r .0) ⌝ }
 {
     let last = top.0 as u64;
-    let first = least(guess::guess(s, d, last, y), last);
+    let first = guess::guess(s, d, last, y);
     let number = d.raw(t, first);
     if number <= y + 13 && y <= number + 13 {
         return Code(first as u16);

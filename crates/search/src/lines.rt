@@ -1,5 +1,8 @@
 // The lines of the guess, one for each curve. Written by tools/tables.py.
 ghost use Prim.Native.Nat.{_^_, _<_};
+use curves::log_c3::LogC3;
+use curves::log_c4::LogC4;
+use rules::Setting;
 
 // Above the toe a code's number, less the decoder's bias, is a number z over 2^29, and the signal is slope * log2(z) - start. The slope is
 // in units of 2^-32, the start in units of 2^-48.
@@ -69,23 +72,39 @@ impl Line {
         start: 909029982543029,
     };
 
-    // The line of an EI. Curve 4's EI is 0.
-    pub fn of(ei: u16) -> Line
+    // of no curve
+    pub const NONE: Line = Line { slope: 0, start: 0 };
+
+    // The line of a row of curve 3's constants.
+    fn log_c3(row: usize) -> Line
         ensures { λ k. ⌜ k .slope < 2 ^ 29 ⌝ }
     {
-        match ei {
-            160 => Line::EI160,
-            200 => Line::EI200,
-            250 => Line::EI250,
-            320 => Line::EI320,
-            400 => Line::EI400,
-            500 => Line::EI500,
-            640 => Line::EI640,
-            800 => Line::EI800,
-            1000 => Line::EI1000,
-            1280 => Line::EI1280,
-            1600 => Line::EI1600,
-            _ => Line::LOG_C4,
+        match row {
+            0 => Line::EI160,
+            1 => Line::EI200,
+            2 => Line::EI250,
+            3 => Line::EI320,
+            4 => Line::EI400,
+            5 => Line::EI500,
+            6 => Line::EI640,
+            7 => Line::EI800,
+            8 => Line::EI1000,
+            9 => Line::EI1280,
+            10 => Line::EI1600,
+            _ => Line::NONE,
+        }
+    }
+
+    // The line of a setting. (It goes by the curve's number: to name the curve first took 4 % of the
+    // way back's time.)
+    pub fn of(s: Setting) -> Line
+        ensures { λ k. ⌜ k .slope < 2 ^ 29 ⌝ }
+    {
+        let curve = s.curve;
+        match curve {
+            LogC3::NUMBER => Line::log_c3(LogC3::row(s.ei)),
+            LogC4::NUMBER => Line::LOG_C4,
+            _ => Line::NONE,
         }
     }
 }

@@ -1,2 +1,2 @@
-mod Tests
+mod Widths
 pub mod Same

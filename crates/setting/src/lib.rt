@@ -1,9 +1,12 @@
 // The checks of a setting and of a code, and the numbers of the refusals.
 ghost use mathlib.Core.Path.{_≡_};
-ghost use Rattle.rules.specs.Choice.{member};
-ghost use Rattle.rules.specs.Refusal.{numberOf};
-ghost use Rattle.rules.specs.Setting.{curves, widthsOf, eisOf, topOf, settingCheck, codeCheck, Valid};
+ghost use Rattle.rules.specs.Refusal.{numberOf, then};
+ghost use Rattle.rules.specs.declared.Refusal.the-variants.{UnknownWidth, UnknownEi};
+ghost use Rattle.rules.specs.Setting.{topOf, refuseUnless, settingCheck, codeCheck, Valid};
 ghost use Rattle.setting.specs.Same.{sameSetting};
+use curves::CurveName;
+use curves::log_c3::LogC3;
+use curves::log_c4::LogC4;
 use rules::Check;
 use rules::Code;
 use rules::Refusal;
@@ -27,69 +30,28 @@ pub fn refusal_number(r: Refusal) -> u8
     }
 }
 
-fn is_curve(curve: u8) -> bool
-    ensures { λ r. ⌜ r ≡ member curve curves ⌝ }
+// Refusals 4 and 5, where the curve has the width or not, and the EI or not.
+fn check_limits(width: bool, ei: bool) -> Check
+    ensures { λ r. ⌜ r ≡ then (refuseUnless width UnknownWidth) (refuseUnless ei UnknownEi) ⌝ }
 {
-    if curve == 3 { true } else { curve == 4 }
-}
-
-fn is_width(curve: u8, width: u8) -> bool
-    ensures { λ r. ⌜ r ≡ member width (widthsOf curve) ⌝ }
-{
-    if curve == 3 {
-        match width {
-            10 => true,
-            12 => true,
-            16 => true,
-            _ => false,
-        }
-    } else {
-        match width {
-            12 => true,
-            16 => true,
-            _ => false,
-        }
+    if !width {
+        return Check::Refused(Refusal::UnknownWidth);
     }
-}
-
-fn is_ei(curve: u8, ei: u16) -> bool
-    ensures { λ r. ⌜ r ≡ member ei (eisOf curve) ⌝ }
-{
-    if curve == 3 {
-        match ei {
-            160 => true,
-            200 => true,
-            250 => true,
-            320 => true,
-            400 => true,
-            500 => true,
-            640 => true,
-            800 => true,
-            1000 => true,
-            1280 => true,
-            1600 => true,
-            _ => false,
-        }
-    } else {
-        ei == 0
+    if !ei {
+        return Check::Refused(Refusal::UnknownEi);
     }
+    Check::Passed
 }
 
 // Refusals 3, 4 and 5.
 pub fn check_setting(s: Setting) -> Check
     ensures { λ r. ⌜ r ≡ settingCheck s ⌝ }
 {
-    let curve = s.curve;
-    if !is_curve(curve) {
-        return Check::Refused(Refusal::UnknownCurve);
+    match CurveName::of(s.curve) {
+        CurveName::LogC3 => check_limits(LogC3::has_width(s.width), LogC3::has_ei(s.ei)),
+        CurveName::LogC4 => check_limits(LogC4::has_width(s.width), LogC4::has_ei(s.ei)),
+        CurveName::Unknown => Check::Refused(Refusal::UnknownCurve),
     }
-    if !is_width(curve, s.width) {
-        return Check::Refused(Refusal::UnknownWidth);
-    }
-    if !is_ei(curve, s.ei) {
-        return Check::Refused(Refusal::UnknownEi);
-    }
-    Check::Passed
 }
 
 // The top code of a setting's width.

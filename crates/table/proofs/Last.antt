@@ -1,21 +1,21 @@
--- The last arm of a match on the EI.
+-- The last arm of a match on the row.
 -- Assumes nothing.
-use mathlib.Core.Path.{_≡_, ap}
-use Prim.Native.Nat.{ℕ}
-use borrow.Author.Tests.{ne-eqb}
+use mathlib.Core.List.{List, [], _∷_}
+use mathlib.Core.Path.{_≡_, refl, ap}
+use Prim.Native.Nat.{ℕ, zero, suc, _≤_}
+use native.Mathlib.Omega.{arith}
+use lib.ListN.{length}
 use Rattle.rules.specs.Curve.{logC3, noConstants}
+use Rattle.curves.proofs.Rows.{NoneOf, at-least}
 use Rattle.table.specs.Seeds.{Seed, logC3First, logC3Seeds}
 use Rattle.table.specs.Table.{seedAt, tableWith, logC3Table}
 
--- an EI that is none of those before the last
-abbrev pub NoneBefore : ℕ → Type 0
-NoneBefore ei =
-    ((((((((((Unit {0} × (ei ≡ 160 → ⊥)) × (ei ≡ 200 → ⊥)) × (ei ≡ 250 → ⊥)) × (ei ≡ 320 → ⊥)) × (ei ≡ 400 → ⊥)) × (ei ≡ 500 → ⊥)) × (ei ≡ 640 → ⊥)) × (ei ≡ 800 → ⊥)) × (ei ≡ 1000 → ⊥)) × (ei ≡ 1280 → ⊥))
+last-seed : (row : ℕ) (s : Seed) (more : List Seed) → length more ≤ row → seedAt row s more ≡ seedAt (length more) s more
+last-seed row s [] h = refl
+last-seed zero s (next ∷ more) h = absurd (omega arith)
+last-seed (suc row) s (next ∷ more) h = last-seed row next more (omega arith)
 
-last-seed : (ei : ℕ) → NoneBefore ei → seedAt ei logC3First logC3Seeds ≡ seedAt 1600 logC3First logC3Seeds
-last-seed ei h =
-    rw (ne-eqb ei 160 (h .0 .0 .0 .0 .0 .0 .0 .0 .0 .1), ne-eqb ei 200 (h .0 .0 .0 .0 .0 .0 .0 .0 .1), ne-eqb ei 250 (h .0 .0 .0 .0 .0 .0 .0 .1), ne-eqb ei 320 (h .0 .0 .0 .0 .0 .0 .1), ne-eqb ei 400 (h .0 .0 .0 .0 .0 .1), ne-eqb ei 500 (h .0 .0 .0 .0 .1), ne-eqb ei 640 (h .0 .0 .0 .1), ne-eqb ei 800 (h .0 .0 .1), ne-eqb ei 1000 (h .0 .1), ne-eqb ei 1280 (h .1))
-
-pub last-ei : (width ei : ℕ) → NoneBefore ei → logC3Table width ei ≡ logC3Table width 1600
+pub last-row : (width row : ℕ) → NoneOf 10 row → logC3Table width row ≡ logC3Table width 10
 unfolding logC3Table
-last-ei width ei h = ap (λ (s : Seed). tableWith (logC3 noConstants) s width) (last-seed ei h)
+last-row width row h =
+    ap (λ (s : Seed). tableWith (logC3 noConstants) s width) (last-seed row logC3First logC3Seeds (at-least 10 row h))

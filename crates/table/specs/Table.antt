@@ -8,13 +8,18 @@ use Rattle.rules.specs.Choice.{choose}
 use Rattle.rules.specs.declared.Setting.{Setting}
 use Rattle.rules.specs.Fraction.{Fraction}
 use Rattle.rules.specs.Curve.{Curve, logC4, logC3, base, factor, noConstants}
+use Rattle.curves.specs.declared.CurveName.{CurveName}
+use Rattle.curves.specs.declared.CurveName.the-variants.{LogC3, LogC4, Unknown}
+use Rattle.curves.specs.Named.{named}
+use Rattle.curves.specs.LogC3.{rowOf}
 use Rattle.power.specs.Progression.{squareDown, progression}
 use Rattle.table.specs.Seeds.{Seed, logC4Seed, logC3First, logC3Seeds}
 
--- the seed of an EI: the first that has it, or else the last
+-- the seed of a row of curve 3's constants, and of every row past the last the last
 abbrev pub seedAt : ℕ → Seed → List Seed → Seed
-seedAt ei s [] = s
-seedAt ei s (next ∷ more) = choose (eqb ei (s .ei)) s (seedAt ei next more)
+seedAt row s [] = s
+seedAt zero s (next ∷ more) = s
+seedAt (suc row) s (next ∷ more) = seedAt row next more
 
 -- one of three, by the width
 abbrev pub byWidth : {A : Type 0} → ℕ → A → A → A → A
@@ -57,11 +62,15 @@ unfoldable pub logC4Table : (width : ℕ) → List ℕ
 logC4Table width = choose (eqb width 12) (tableWith logC4 logC4Seed 12) (tableWith logC4 logC4Seed 16)
 
 -- (the base and the factor are the same at every EI)
-unfoldable pub logC3Table : (width ei : ℕ) → List ℕ
-logC3Table width ei = tableWith (logC3 noConstants) (seedAt ei logC3First logC3Seeds) width
+unfoldable pub logC3Table : (width row : ℕ) → List ℕ
+logC3Table width row = tableWith (logC3 noConstants) (seedAt row logC3First logC3Seeds) width
 
--- the table of a setting, and for every other setting one of them
+abbrev tableFor : CurveName → (width ei : ℕ) → List ℕ
+tableFor LogC3 width ei = byWidth width (logC3Table 10 (rowOf ei)) (logC3Table 12 (rowOf ei)) (logC3Table 16 (rowOf ei))
+tableFor LogC4 width ei = logC4Table width
+tableFor Unknown width ei = zeros 128
+
+-- the table of a setting. (A setting that is not valid has one of another width or EI of its curve,
+-- and zeros where it names no curve.)
 unfoldable pub tableOf : Setting → List ℕ
-tableOf s =
-    choose (eqb (s .curve) 3) (byWidth (s .width) (logC3Table 10 (s .ei)) (logC3Table 12 (s .ei)) (logC3Table 16 (s .ei)))
-    (logC4Table (s .width))
+tableOf s = tableFor (named (s .curve)) (s .width) (s .ei)

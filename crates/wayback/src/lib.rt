@@ -36,9 +36,9 @@ pub fn to_aces(s: Setting, d: Decoder, t: &[u64; 128], p: Pixel) -> Triple
     requires { ⌜ IsPixel s p ⌝ }
     ensures { λ a. ⌜ a ≡ pixelAces s p ⌝ }
 {
-    let x = d.scene(t, p.red.0 as u64);
-    let y = d.scene(t, p.green.0 as u64);
-    let z = d.scene(t, p.blue.0 as u64);
+    let x = d.scene(t, p.red);
+    let y = d.scene(t, p.green);
+    let z = d.scene(t, p.blue);
     matrix::aces(s, x, y, z)
 }
 

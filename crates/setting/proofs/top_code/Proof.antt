@@ -1,6 +1,6 @@
 -- `top_code` meets its contract: a valid setting's width is one of three.
 -- Assumes nothing.
-use Rattle.setting.proofs.Tests.{last-width}
+use Rattle.setting.proofs.Widths.{last-width}
 use Rattle.setting.proofs.top_code.Statement.{statement}
 use Rattle.setting.proofs.top_code.Tie as tie
 

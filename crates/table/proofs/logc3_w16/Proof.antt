@@ -1,7 +1,7 @@
--- `logc3_w16` meets its contract: each arm's table is computed; the last arm is for the last EI.
+-- `logc3_w16` meets its contract: each arm's table is computed; the last arm is for the last row.
 -- Assumes nothing.
 use Rattle.table.specs.Table.{logC3Table}
-use Rattle.table.proofs.Last.{last-ei}
+use Rattle.table.proofs.Last.{last-row}
 use Rattle.table.proofs.logc3_w16.Statement.{statement}
 use Rattle.table.proofs.logc3_w16.Tie as tie
 
@@ -20,4 +20,4 @@ logc3-w16-spec =
     (λ c. rw (c .match .keys8))
     (λ c. rw (c .match .keys9))
     (λ c. rw (c .match .keys10))
-    (λ c. rw (last-ei 16 (c .before .args .ei) (c .match .rest))))
+    (λ c. rw (last-row 16 (c .before .args .row) (c .match .rest))))

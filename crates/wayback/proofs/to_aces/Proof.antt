@@ -1,7 +1,6 @@
 -- `to_aces` meets its contract: each code is decoded, and the numbers are taken to ACES.
 -- Assumes nothing.
 use mathlib.Core.Path.{_≡_, ap, _∙_, subst, sym}
-use borrow.Author.Needs.{needs}
 use lib.IntN.{ℤ}
 use Prim.Native.Nat.{ℕ}
 use Rattle.rules.specs.declared.Setting.{Setting}
@@ -16,29 +15,29 @@ use Rattle.wayback.proofs.to_aces.Statement.{statement}
 use Rattle.wayback.proofs.to_aces.Tie as tie
 
 scene-requires : tie.Need-scene-requires
-scene-requires c κs = let s = c .before in ready-fits (s .pre .0) _ (s .pre .1 .red)
+scene-requires c κs = ready-fits (c .pre .0) _ (c .pre .1 .red)
 
 scene-requires-2 : tie.Need-scene-requires-2
-scene-requires-2 c κs = let s = c .before .before .before in ready-fits (s .pre .0) _ (s .pre .1 .green)
+scene-requires-2 c κs = let s = c .before in ready-fits (s .pre .0) _ (s .pre .1 .green)
 
 scene-requires-3 : tie.Need-scene-requires-3
-scene-requires-3 c κs = let s = c .before .before .before .before .before in ready-fits (s .pre .0) _ (s .pre .1 .blue)
+scene-requires-3 c κs = let s = c .before .before in ready-fits (s .pre .0) _ (s .pre .1 .blue)
 
 -- the three numbers
 module _ (c : tie.After-scene3) where
   abbrev s : tie.Start
-  s = c .before .before .before .before .before .before
+  s = c .before .before .before
 
-  red-is : c .before .before .before .before .scene .result .0 ≡ decoded (c .before .before .before .before .before .before .args .s) (c .before .before .before .before .before .before .args .p .red .0)
-  red-is = c .before .before .before .before .scene .ensures ∙ ready-number (s .pre .0) _
+  red-is : c .before .before .scene .result .0 ≡ decoded (c .before .before .before .args .s) (c .before .before .before .args .p .red .0)
+  red-is = c .before .before .scene .ensures ∙ ready-number (s .pre .0) _
 
-  green-is : c .before .before .scene2 .result .0 ≡ decoded (c .before .before .before .before .before .before .args .s) (c .before .before .before .before .before .before .args .p .green .0)
-  green-is = c .before .before .scene2 .ensures ∙ ready-number (s .pre .0) _
+  green-is : c .before .scene2 .result .0 ≡ decoded (c .before .before .before .args .s) (c .before .before .before .args .p .green .0)
+  green-is = c .before .scene2 .ensures ∙ ready-number (s .pre .0) _
 
-  blue-is : c .scene3 .result .0 ≡ decoded (c .before .before .before .before .before .before .args .s) (c .before .before .before .before .before .before .args .p .blue .0)
+  blue-is : c .scene3 .result .0 ≡ decoded (c .before .before .before .args .s) (c .before .before .before .args .p .blue .0)
   blue-is = c .scene3 .ensures ∙ ready-number (s .pre .0) _
 
-  number : {x : ℤ} (n : ℕ) → codeCheck (c .before .before .before .before .before .before .args .s) n ≡ Passed → x ≡ decoded (c .before .before .before .before .before .before .args .s) n → Number x
+  number : {x : ℤ} (n : ℕ) → codeCheck (c .before .before .before .args .s) n ≡ Passed → x ≡ decoded (c .before .before .before .args .s) n → Number x
   number n h e = subst Number (sym e) (decoded-number (s .args .s) (s .pre .0 .valid) n (code-passed (s .args .s) n h))
 
 aces-requires : tie.Need-aces-requires
@@ -53,4 +52,4 @@ returns c =
 pub to-aces-spec : {M : Type 1} → statement M
 to-aces-spec =
     tie.close
-    (tie.spec (λ c. search needs) scene-requires (λ c. search needs) scene-requires-2 (λ c. search needs) scene-requires-3 aces-requires returns)
+    (tie.spec scene-requires scene-requires-2 scene-requires-3 aces-requires returns)

@@ -15,4 +15,4 @@ returns c =
     rw (c .before .word-at .ensures) at (c .scene .ensures) ∙ ready-number (s .pre .0) _
 
 pub scene-at-spec : {M : Type 1} → statement M
-scene-at-spec = tie.close (tie.spec (λ c κs. search needs) (λ c. search needs) scene-requires returns)
+scene-at-spec = tie.close (tie.spec (λ c κs. search needs) scene-requires returns)

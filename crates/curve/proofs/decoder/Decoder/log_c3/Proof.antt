@@ -1,7 +1,7 @@
 -- `Decoder::log_c3` meets its contract: field by field.
 -- Assumes nothing.
 use borrow.Author.Needs.{needs}
-use Rattle.curve.specs.Constants.{constantsOf}
+use Rattle.curves.specs.LogC3.{constantsOf}
 use Rattle.curve.proofs.Program.{decoder-is}
 use Rattle.curve.proofs.decoder.Decoder.log_c3.Statement.{statement}
 use Rattle.curve.proofs.decoder.Decoder.log_c3.Tie as tie
@@ -10,7 +10,7 @@ returns : tie.Need-returns
 returns c =
     decoder-is (constantsOf (c .before .before .before .before .args .k)) (c .before .before .before .before .args .top) _ _ _ _
     (c .before .before .before .first-code .ensures)
-    (c .before .before .bias .ensures)
+    (rw (c .before .before .before .before .pre .0) at (c .before .before .bias .ensures))
     (c .before .toe-added .ensures)
     (c .toe-divisor .ensures)
 

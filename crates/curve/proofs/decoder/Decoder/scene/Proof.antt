@@ -5,14 +5,14 @@ use Rattle.curve.proofs.Program.{raw-small, cast-fits, minus-fits, minu
 use Rattle.curve.proofs.decoder.Decoder.scene.Statement.{statement}
 use Rattle.curve.proofs.decoder.Decoder.scene.Tie as tie
 
-cast-t5 : tie.Need-cast-t5
-cast-t5 c = cast-fits (c .raw .result) (rw (c .raw .ensures) (raw-small (c .before .pre)))
+cast-t6 : tie.Need-cast-t6
+cast-t6 c = cast-fits (c .raw .result) (rw (c .raw .ensures) (raw-small (c .before .before .pre)))
 
-sub-t6 : tie.Need-sub-t6
-sub-t6 c = minus-fits (c .raw .result) (rw (c .raw .ensures) (raw-small (c .before .pre)))
+sub-t7 : tie.Need-sub-t7
+sub-t7 c = minus-fits (c .raw .result) (rw (c .raw .ensures) (raw-small (c .before .before .pre)))
 
 returns : tie.Need-returns
-returns c = minus-is (c .raw .result) _ (c .raw .ensures) (rw (c .raw .ensures) (raw-small (c .before .pre)))
+returns c = minus-is (c .raw .result) _ (c .raw .ensures) (rw (c .raw .ensures) (raw-small (c .before .before .pre)))
 
 pub scene-spec : {M : Type 1} → statement M
-scene-spec = tie.close (tie.spec (λ c κs. search needs) cast-t5 sub-t6 returns)
+scene-spec = tie.close (tie.spec (λ c. search needs) (λ c κs. search needs) cast-t6 sub-t7 returns)

@@ -1,0 +1,3 @@
+mod Member
+pub mod Rows
+pub mod Named

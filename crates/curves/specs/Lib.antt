@@ -1,0 +1,3 @@
+pub mod Named
+pub mod LogC3
+pub mod LogC4

@@ -1,0 +1,21 @@
+-- Curve 3 as the program holds it: its constants, and the rows of its EIs.
+-- Assumes nothing.
+use mathlib.Core.List.{List, [], _∷_}
+use Prim.Native.Nat.{ℕ, suc}
+use lib.Dec.{eqb}
+use Rattle.rules.specs.Choice.{choose}
+use Rattle.rules.specs.Curve.{Constants}
+use Rattle.rules.specs.Setting.{eisOf}
+use Rattle.curves.specs.declared.log_c3.LogC3.{LogC3}
+
+abbrev pub constantsOf : LogC3 → Constants
+constantsOf k = record { cut = k .cut; b = k .b; c = k .c; d = k .d; e = k .e; f = k .f }
+
+-- where a number stands in a list, from 0, and behind the list where it does not
+abbrev pub place : ℕ → List ℕ → ℕ
+place n [] = 0
+place n (m ∷ ms) = choose (eqb n m) 0 (suc (place n ms))
+
+-- the row of an EI in the table of constants
+unfoldable pub rowOf : ℕ → ℕ
+rowOf ei = place ei (eisOf 3)
