@@ -10,6 +10,8 @@ use Rattle.rules.specs.Choice.{choose}
 use Rattle.rules.specs.declared.Setting.{Setting}
 use Rattle.rules.specs.Setting.{curves, widthsOf, eisOf, topOf, Valid}
 use Rattle.rules.specs.Exact.{scaleOf}
+use Rattle.curves.specs.Named.{named}
+use Rattle.curves.specs.LogC3.{rowOf}
 use Rattle.rules.proofs.Settings.{forAll, forSettings, for-valid, first, others}
 use Rattle.table.specs.Table.{logC3Table, logC4Table, tableOf}
 use Rattle.decoded_margins.proofs.Margins.{marginTest}
@@ -40,32 +42,32 @@ test c w e = marginTest (scaleOf (record { curve = c; width = w; ei = e })) (top
 
 -- ---- computed
 c3-w10 : T (forAll (eisOf 3) (λ e. test 3 10 e))
-unfolding test tableOf logC3Table logC4Table
+unfolding test tableOf logC3Table logC4Table named rowOf
 c3-w10 = tt
 
 c3-w12 : T (forAll (eisOf 3) (λ e. test 3 12 e))
-unfolding test tableOf logC3Table logC4Table
+unfolding test tableOf logC3Table logC4Table named rowOf
 c3-w12 = tt
 
 -- the first three EI values, the next three, ..
 c3-w16-first : T (forAll (take 3 (eisOf 3)) (λ e. test 3 16 e))
-unfolding test tableOf logC3Table logC4Table
+unfolding test tableOf logC3Table logC4Table named rowOf
 c3-w16-first = tt
 
 c3-w16-second : T (forAll (take 3 (drop 3 (eisOf 3))) (λ e. test 3 16 e))
-unfolding test tableOf logC3Table logC4Table
+unfolding test tableOf logC3Table logC4Table named rowOf
 c3-w16-second = tt
 
 c3-w16-third : T (forAll (take 3 (drop 6 (eisOf 3))) (λ e. test 3 16 e))
-unfolding test tableOf logC3Table logC4Table
+unfolding test tableOf logC3Table logC4Table named rowOf
 c3-w16-third = tt
 
 c3-w16-last : T (forAll (drop 9 (eisOf 3)) (λ e. test 3 16 e))
-unfolding test tableOf logC3Table logC4Table
+unfolding test tableOf logC3Table logC4Table named rowOf
 c3-w16-last = tt
 
 c4 : T (forAll (widthsOf 4) (λ w. forAll (eisOf 4) (λ e. test 4 w e)))
-unfolding test tableOf logC3Table logC4Table
+unfolding test tableOf logC3Table logC4Table named rowOf
 c4 = tt
 
 -- ---- all of them
