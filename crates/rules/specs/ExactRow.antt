@@ -17,18 +17,19 @@ acesTolerance = ratio 2 1
 abbrev pub rowOver : Matrix → (i : ℕ) → (x y z : Fraction) → Fraction
 rowOver m i x y z = (integer (entry m i 0) *ℚ x +ℚ integer (entry m i 1) *ℚ y +ℚ integer (entry m i 2) *ℚ z) /ℚ whole (m .scale)
 
--- an order with its sides exchanged: above for below, below for above
+-- an order with its sides exchanged: "above and below exchanged"
 abbrev pub exchanged : (ℕ → ℕ → Type 0) → ℕ → ℕ → Type 0
 exchanged R m n = R n m
 
--- how a fraction stands to its exact value, where the row is to be R, less or greater. For less it is
--- "above its exact value under a positive entry and below it under a negative one"
+-- how a fraction stands to its exact value where the row is to be R, which is less or greater. For less:
+-- "above its exact value under a positive entry and below it under a negative one".
 abbrev pub Side : (R : ℕ → ℕ → Type 0) → (entry : ℤ) → ℕ → ℕ → Type 0
 Side R (pos e) = exchanged R
 Side R (negsuc e) = R
 
--- "A matrix row of three exact values is less than a number where some three fractions, each [on its
--- side of its exact value], already make the row less than that number; greater is read likewise"
+-- "A matrix row of three exact values is less than a number where some three fractions, each above its
+-- exact value under a positive entry and below it under a negative one, already make the row less than
+-- that number; greater is read likewise, with above and below exchanged."
 pub record VersusRow (R : ℕ → ℕ → Type 0) (m : Matrix) (i : ℕ) (k : Scale) (r g b : ℕ) (a : Fraction) : Type 0 where
   pub x : Fraction
   pub y : Fraction
