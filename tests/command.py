@@ -51,6 +51,7 @@ def keeps(out, *words, status, saying, **more):
 def help_and_version():
     status, said, wrong = call("--help")
     assert status == DONE and not wrong and all(f"ropeinstant {name} IN" in said for name in (*NAMES.values(), "verify")), said
+    assert "ropeinstant demo" in said and call("help", "demo")[1].startswith("ropeinstant demo"), said
     for name in (*NAMES.values(), "verify"):
         for words in ((name, "--help"), (name, "-h"), ("help", name)):
             status, said, wrong = call(*words)
@@ -78,6 +79,14 @@ def wrong_usage(folder):
     keeps(out, "to-aces", source, link, status=USAGE, saying="the same file")
     with open(source, "rb") as file:
         keeps(out, "to-aces", "-", link, status=USAGE, saying="the same file", stdin=file)
+
+
+def demo(folder):
+    """a reel of every setting goes to ACES and back, a damaged copy is refused, and nothing stays"""
+    status, said, wrong = call("demo", env=dict(os.environ, TMPDIR=str(folder)))
+    assert status == DONE and not wrong and not list(folder.iterdir()), (status, said, wrong)
+    for words in "a reel of 35 settings", "reel.pixels has 350000 bytes", "reel.aces has 980000 bytes", "the same, byte for byte", "refused 10", "as it was":
+        assert words in said, said
 
 
 # ---- the rules
@@ -412,6 +421,7 @@ def main():
 
     help_and_version()
     apart(wrong_usage)
+    apart(demo)
     print("command: help and version, and wrong usage, which touches no file")
     print(f"command: converted or refused as the rules say, in words, by files and pipes: {apart(held_to_rules, pick, table, 400)}")
     print(f"command: the same bytes, and the same first refusal, in {apart(any_split, pick)} splits of chunk and threads")

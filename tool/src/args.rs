@@ -8,7 +8,7 @@ use std::thread::available_parallelism;
 pub const CHUNK: usize = 4096;
 pub const MOST_THREADS: usize = 256;
 pub const MOST_CHUNK: usize = 1_000_000;
-pub const SUBCOMMANDS: [&str; 5] = ["to-aces", "to-camera", "to-scene", "from-scene", "verify"];
+pub const SUBCOMMANDS: [&str; 6] = ["to-aces", "to-camera", "to-scene", "from-scene", "verify", "demo"];
 
 #[derive(Debug, PartialEq)]
 pub enum Request {
@@ -72,7 +72,11 @@ fn set(split: &mut Split, option: &str, arguments: &mut impl Iterator<Item = OsS
 }
 
 fn check_files(name: &str, files: &[PathBuf]) -> Result<(), Failure> {
-    let (needed, words) = if name == "verify" { (1, "IN") } else { (2, "IN and OUT") };
+    let (needed, words) = match name {
+        "demo" => (0, "no names"),
+        "verify" => (1, "IN"),
+        _ => (2, "IN and OUT"),
+    };
     if files.len() != needed {
         return Err(Failure::Usage(format!("{} needs {}, and has {} names", name, words, files.len())));
     }

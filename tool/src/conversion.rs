@@ -1,7 +1,7 @@
 //! The four conversions: the bytes of a record that each reads and writes, and its function of the library.
 use crate::library::{aces_to_pixel, pixel_to_aces, pixel_to_scene, scene_to_pixel, Answer};
 
-const PIXEL: usize = 10;
+pub const PIXEL: usize = 10;
 const NUMBERS: usize = 28; // a scene record or an ACES record
 
 pub struct Conversion {

@@ -4,6 +4,7 @@ use crate::args::{CHUNK, MOST_CHUNK, MOST_THREADS};
 pub fn text(subcommand: Option<&str>) -> String {
     match subcommand {
         None => GENERAL.to_string(),
+        Some("demo") => format!("{}\n{}", DEMO, options()),
         Some("verify") => format!("{}\n{}\n{}", VERIFY, INPUT, options()),
         Some(name) => format!("{}\n{}\n{}\n{}", about(name), INPUT, OUTPUT, options()),
     }
@@ -21,6 +22,8 @@ and ACES numbers, and back, exactly.
                                     nearest codes
     ropeinstant verify IN           pixel records to ACES and back, compared;
                                     writes no file
+    ropeinstant demo                a reel of every setting to ACES and back,
+                                    and the refusal of a damaged copy
 
     ropeinstant SUBCOMMAND --help   what it reads, writes and refuses; options
     ropeinstant --version
@@ -89,6 +92,14 @@ ropeinstant verify IN
 Converts pixel records (10 bytes) to ACES and back, and compares every byte. It
 writes no file, and says on standard output how many records came back the
 same. Refuses as to-aces does.
+";
+
+const DEMO: &str = "\
+ropeinstant demo
+
+Makes a small reel of every setting, converts it to ACES and back, and shows the
+sizes, the refusal of a damaged copy, and that the reel came back byte for byte.
+It needs no input, and leaves no file.
 ";
 
 const INPUT: &str = "\

@@ -4,6 +4,7 @@
 mod args;
 mod commands;
 mod conversion;
+mod demo;
 mod failure;
 mod help;
 mod input;
@@ -13,6 +14,7 @@ mod output;
 mod partial;
 mod pipeline;
 mod progress;
+mod settings;
 mod target;
 mod words;
 
@@ -38,6 +40,7 @@ fn perform(request: Request) -> Result<(), Failure> {
     match request {
         Request::Help(subcommand) => say(&help::text(subcommand)),
         Request::Version => say(concat!("ropeinstant ", env!("CARGO_PKG_VERSION"), "\n")),
+        Request::Run { name: "demo", split, .. } => demo::demo(&split, say),
         Request::Run { name: "verify", files, split } => say(&format!("{} records come back the same\n", verify(&files[0], &split)?)),
         Request::Run { name, files, split } => convert_files(name, &files, &split),
     }

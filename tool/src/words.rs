@@ -1,4 +1,5 @@
 //! The words of a refusal: what was refused, where, and which value. The library decides; this only reads the refused record again.
+use crate::settings::{listed, Setting, CURVES};
 use std::convert::TryInto;
 
 const CHANNELS: [&str; 3] = ["red", "green", "blue"];
@@ -25,9 +26,9 @@ pub fn refused_length(length: u64, record: usize) -> String {
 fn cause(number: u32, record: &[u8]) -> String {
     let setting = Setting::of(record);
     match number {
-        3 => format!("curve {} is neither 3 nor 4", setting.curve),
-        4 => format!("width {} is not one of curve {}'s, {}", setting.width, setting.curve, widths(setting.curve)),
-        5 => format!("EI {} is not one of curve {}'s, {}", setting.ei, setting.curve, eis(setting.curve)),
+        3 => format!("curve {} is neither {}", setting.curve, listed(CURVES.iter().map(|curve| curve.byte.into()), "nor")),
+        4 => format!("width {} is not one of curve {}'s, {}", setting.width, setting.curve, widths(&setting)),
+        5 => format!("EI {} is not one of curve {}'s, {}", setting.ei, setting.curve, eis(&setting)),
         6 => code_above_top(&setting, record),
         7 => scene_out_of_range(record),
         10 => no_pixel(&setting, record),
@@ -35,37 +36,27 @@ fn cause(number: u32, record: &[u8]) -> String {
     }
 }
 
-struct Setting {
-    curve: u8,
-    width: u8,
-    ei: u16,
+fn widths(setting: &Setting) -> String {
+    let widths = setting.curve().map_or(&[][..], |curve| curve.widths);
+    which(listed(widths.iter().map(|width| width.byte.into()), "and"), widths.len())
 }
 
-impl Setting {
-    fn of(record: &[u8]) -> Setting {
-        Setting { curve: record[0], width: record[1], ei: u16::from_le_bytes([record[2], record[3]]) }
-    }
+fn eis(setting: &Setting) -> String {
+    let eis = setting.curve().map_or(&[][..], |curve| curve.eis);
+    which(listed(eis.iter().copied(), "and"), eis.len())
 }
 
-fn widths(curve: u8) -> &'static str {
-    if curve == 3 {
-        "which are 10, 12 and 16"
+fn which(list: String, count: usize) -> String {
+    if count == 1 {
+        format!("which is {} only", list)
     } else {
-        "which are 12 and 16"
-    }
-}
-
-fn eis(curve: u8) -> &'static str {
-    if curve == 3 {
-        "which are 160, 200, 250, 320, 400, 500, 640, 800, 1000, 1280 and 1600"
-    } else {
-        "which is 0 only"
+        format!("which are {}", list)
     }
 }
 
 fn code_above_top(setting: &Setting, record: &[u8]) -> String {
-    let top = (1_u32 << setting.width.min(16)) - 1;
-    let codes = record[4..].chunks_exact(2).map(|two| u32::from(u16::from_le_bytes([two[0], two[1]])));
+    let top = setting.width().map_or(u16::MAX, |width| width.highest);
+    let codes = record[4..].chunks_exact(2).map(|two| u16::from_le_bytes([two[0], two[1]]));
     match CHANNELS.iter().zip(codes).find(|(_, code)| *code > top) {
         Some((channel, code)) => format!("{} code {} is above {}", channel, code, top),
         None => "a code is above its top".to_string(),
