@@ -1,7 +1,10 @@
 //! `demo`: a small reel of every setting goes to ACES and back, in a folder of its own that is gone afterwards.
-use crate::commands::{convert, Split};
-use crate::conversion::{Conversion, PIXEL, TO_ACES, TO_CAMERA};
-use crate::failure::Failure;
+use crate::conversion::{Conversion, TO_ACES, TO_CAMERA};
+use crate::convert::convert;
+use crate::failure::{Cause, Failure};
+use crate::kinds::{ACES, CHANNELS, PIXEL};
+use crate::report::say;
+use crate::session::Session;
 use crate::settings::{all, Setting, BYTES};
 use std::fs;
 use std::io;
@@ -9,50 +12,47 @@ use std::path::{Path, PathBuf};
 
 const OF_EACH: usize = 1000; // records of a setting
 
-/// Runs it: what it did, in words.
-pub fn demo(split: &Split, mut say: impl FnMut(&str) -> Result<(), Failure>) -> Result<(), Failure> {
-    let folder = Folder::new().map_err(|error| Failure::files("cannot make a folder for the demo", &error))?;
+pub fn demo(session: &Session) -> Result<(), Failure> {
+    let folder = Folder::new().map_err(|error| Cause::files("cannot make a folder for the demo", &error).of("ropeinstant"))?;
     let [reel, aces, back, damaged] = ["reel.pixels", "reel.aces", "back.pixels", "damaged.aces"].map(|name| folder.0.join(name));
-    fs::write(&reel, reel_of_all()).map_err(|error| written(&reel, &error))?;
-    say(&format!("a reel of {} settings, {} pixels of each\n", all().count(), OF_EACH))?;
-    say(&sized(&reel)?)?;
-    shown(&TO_ACES, "to-aces", (&reel, &aces), split, &mut say)?;
-    shown(&TO_CAMERA, "to-camera", (&aces, &back), split, &mut say)?;
-    say("the reel and what came back: ")?;
-    say(if read(&reel)? == read(&back)? { "the same, byte for byte\n" } else { "they DIFFER\n" })?;
+    write(&reel, &reel_of_all())?;
+    say(&format!("A reel of {} settings, {} pixels of each:\n", all().count(), OF_EACH))?;
+    say_size(&reel)?;
+    shown(session, &TO_ACES, &reel, &aces)?;
+    say_size(&aces)?;
+    shown(session, &TO_CAMERA, &aces, &back)?;
+    say_size(&back)?;
+    held(read(&reel)? == read(&back)?, "the reel came back, byte for byte", "the reel did not come back")?;
 
     let mut bytes = read(&aces)?;
-    let record = bytes.len() / TO_ACES.to / 2;
-    bytes[record * TO_ACES.to + BYTES] ^= 1;
-    fs::write(&damaged, &bytes).map_err(|error| written(&damaged, &error))?;
-    say(&format!("a copy of reel.aces with one bit of record {} changed\n", record))?;
-    match shown(&TO_CAMERA, "to-camera", (&damaged, &back), split, &mut say) {
-        Err(Failure::Refused(words)) => say(&format!("    {}\n", words))?,
+    let record = bytes.len() / ACES.size() / 2;
+    bytes[record * ACES.size() + BYTES] ^= 1;
+    write(&damaged, &bytes)?;
+    say(&format!("A copy of reel.aces with one bit of record {} changed:\n", record))?;
+    match shown(session, &TO_CAMERA, &damaged, &back) {
+        Err(failure @ Failure { cause: Cause::Refused(_), .. }) => say(&format!("    {}: {}\n", last(&damaged), failure.words()))?,
         Err(failure) => return Err(failure),
-        Ok(()) => return Err(Failure::Refused("demo: a damaged copy was converted".to_string())),
+        Ok(()) => held(false, "", "the damaged copy was converted")?,
     }
-    say("and back.pixels after the refusal: ")?;
-    if read(&reel)? != read(&back)? {
-        return Err(Failure::Refused("demo: back.pixels is not as it was".to_string()));
-    }
-    say("as it was\n")
+    held(read(&reel)? == read(&back)?, "back.pixels is as it was", "back.pixels is not as it was")
 }
 
-/// One conversion, with the line that a user would write for it and the size of what it wrote.
-fn shown(
-    conversion: &Conversion,
-    name: &str,
-    (from, to): (&Path, &Path),
-    split: &Split,
-    say: &mut impl FnMut(&str) -> Result<(), Failure>,
-) -> Result<(), Failure> {
-    say(&format!("ropeinstant {} {} {}\n", name, last(from), last(to)))?;
-    convert(conversion, name, from, to, split)?;
-    say(&sized(to)?)
+/// One conversion, with the line that a user would write for it.
+fn shown(session: &Session, conversion: &Conversion, from: &Path, to: &Path) -> Result<(), Failure> {
+    say(&format!("ropeinstant {} {} {}\n", conversion.name, last(from), last(to)))?;
+    convert(session, conversion, from, to).map(drop)
 }
 
-fn sized(path: &Path) -> Result<String, Failure> {
-    Ok(format!("    {} has {} bytes\n", last(path), read(path)?.len()))
+fn held(holds: bool, words: &str, otherwise: &str) -> Result<(), Failure> {
+    if holds {
+        say(&format!("    {}\n", words))
+    } else {
+        Err(Cause::Differs(otherwise.to_string()).of("demo"))
+    }
+}
+
+fn say_size(path: &Path) -> Result<(), Failure> {
+    say(&format!("    {} has {} bytes\n", last(path), read(path)?.len()))
 }
 
 fn last(path: &Path) -> String {
@@ -60,16 +60,16 @@ fn last(path: &Path) -> String {
 }
 
 fn read(path: &Path) -> Result<Vec<u8>, Failure> {
-    fs::read(path).map_err(|error| Failure::files(&format!("cannot read {}", path.display()), &error))
+    fs::read(path).map_err(|error| Failure::files(path, "cannot read", &error))
 }
 
-fn written(path: &Path, error: &io::Error) -> Failure {
-    Failure::files(&format!("cannot write {}", path.display()), error)
+fn write(path: &Path, bytes: &[u8]) -> Result<(), Failure> {
+    fs::write(path, bytes).map_err(|error| Failure::files(path, "cannot write", &error))
 }
 
 /// Records of every setting with codes spread over all of its codes, the lowest and the highest among them.
 fn reel_of_all() -> Vec<u8> {
-    let mut reel = Vec::with_capacity(all().count() * OF_EACH * PIXEL);
+    let mut reel = Vec::with_capacity(all().count() * OF_EACH * PIXEL.size());
     let mut state = 1;
     all().for_each(|setting| (0..OF_EACH).for_each(|k| pixel(&setting, k, &mut state, &mut reel)));
     reel
@@ -79,7 +79,7 @@ fn pixel(setting: &Setting, k: usize, state: &mut u64, reel: &mut Vec<u8>) {
     let width = setting.width().expect("a setting of the table");
     let last = u64::from((width.highest - width.lowest) / width.step);
     reel.extend(setting.bytes());
-    for _ in 0..3 {
+    for _ in CHANNELS {
         *state = state.wrapping_mul(6364136223846793005).wrapping_add(1442695040888963407);
         let index = match k {
             0 => 0,
@@ -104,21 +104,5 @@ impl Folder {
 impl Drop for Folder {
     fn drop(&mut self) {
         let _ = fs::remove_dir_all(&self.0);
-    }
-}
-
-#[cfg(test)]
-mod tests {
-    use super::*;
-
-    #[test]
-    fn it_ends_well_and_says_so() {
-        let mut said = String::new();
-        let answer = demo(&Split { threads: 1, chunk: 4096 }, |words| {
-            said.push_str(words);
-            Ok(())
-        });
-        assert!(answer.is_ok());
-        assert!(said.contains("the same, byte for byte") && said.contains("refused 10: record 17500 (byte 490000)"));
     }
 }

@@ -1,5 +1,6 @@
 //! The settings: the one table of the curves with their widths, codes and EI values, and a setting as a record holds it. The library judges
 //! records; this table is for words, the help and the demo.
+use std::fmt;
 
 /// A width's byte, and its codes: from the lowest to the highest by a step.
 pub struct Width {
@@ -60,12 +61,23 @@ impl Setting {
     }
 }
 
+impl fmt::Display for Setting {
+    fn fmt(&self, to: &mut fmt::Formatter) -> fmt::Result {
+        write!(to, "curve {}, width {}, EI {}", self.curve, self.width, self.ei)
+    }
+}
+
 /// Every setting, in the table's order.
 pub fn all() -> impl Iterator<Item = Setting> {
     CURVES.iter().flat_map(|curve| {
         let widths = curve.widths.iter();
         widths.flat_map(move |width| curve.eis.iter().map(move |&ei| Setting { curve: curve.byte, width: width.byte, ei }))
     })
+}
+
+/// Whether the table has a setting.
+pub fn known(setting: &Setting) -> bool {
+    setting.width().is_some() && setting.curve().map_or(false, |curve| curve.eis.contains(&setting.ei))
 }
 
 /// Numbers in words: "3", "3 and 4", "10, 12 and 16".
@@ -84,7 +96,7 @@ mod tests {
     #[test]
     fn there_are_35_and_each_reads_back() {
         assert_eq!(all().count(), 35);
-        assert!(all().all(|setting| Setting::of(&setting.bytes()) == setting && setting.width().is_some()));
+        assert!(all().all(|setting| Setting::of(&setting.bytes()) == setting && known(&setting)));
     }
 
     #[test]
