@@ -69,11 +69,12 @@ pub fn convert(session: &Session, conversion: &Conversion, from: &Path, to: &Pat
 /// The name of the manifest that is to be written: the one that was asked for, or that is there and would not be true of a new file.
 fn listed(session: &Session, target: &Target, input: &Input) -> Result<Option<Target>, Failure> {
     let path = beside(&target.path());
-    if session.options.manifest || path.symlink_metadata().is_ok() {
-        Target::of(&path, input).map(Some)
-    } else {
-        Ok(None)
+    if !session.options.manifest && path.symlink_metadata().is_err() {
+        return Ok(None);
     }
+    let listed = Target::of(&path, input)?;
+    listed.may_be_made(!session.options.no_clobber)?;
+    Ok(Some(listed))
 }
 
 /// A manifest, written and flushed, that has its name still to be given.

@@ -21,9 +21,7 @@ pub struct Output {
 impl Output {
     /// Makes the new file beside the output, with room for so many bytes where they are known.
     pub fn create(target: Target, room: Option<u64>, clobber: bool) -> Result<Output, Failure> {
-        if !clobber && target.old.is_some() {
-            return Err(Cause::Files("cannot write: it is there, and --no-clobber is said".to_string()).of(&target.shown));
-        }
+        target.may_be_made(clobber)?;
         let made = partial::create(&target.folder, &target.name);
         let (partial, file) = made.map_err(|error| Cause::files("cannot write: a new file beside it", &error).of(&target.shown))?;
         let output = Output { target, partial, file, renamed: false, clobber };

@@ -32,6 +32,14 @@ impl Target {
         Ok(Target { shown: shown(path), folder, name, old })
     }
 
+    /// That it is not there, where no file may be replaced.
+    pub fn may_be_made(&self, clobber: bool) -> Result<(), Failure> {
+        if clobber || self.old.is_none() {
+            return Ok(());
+        }
+        Err(Cause::Files("cannot write: it is there, and --no-clobber is said".to_string()).of(&self.shown))
+    }
+
     /// The whole path, with no links.
     pub fn path(&self) -> PathBuf {
         self.folder.join(&self.name)

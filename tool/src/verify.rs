@@ -21,7 +21,7 @@ pub fn verify(session: &Session, from: &Path) -> Result<Facts, Failure> {
         let file = &file;
         Ok(move |part: &[u8], first: u64| returned(&TO_CAMERA, file, part, first, (&mut aces, &mut back)))
     })?;
-    Ok(facts(records, "come back the same", reading.manifest.is_some()))
+    Ok(facts(records, " come back the same", reading.manifest.is_some()))
 }
 
 /// That a part comes back the same from ACES by a way back, with room for both strips. The theorem says that it does, so a difference is
@@ -87,7 +87,7 @@ pub fn verify_pair(session: &Session, from: &Path, master: &Path) -> Result<Fact
             return Err(Cause::Differs(words).of(&file));
         }
     }
-    let mut facts = facts(records, &format!("are what {} gives", other.name), master.manifest.is_some());
+    let mut facts = facts(records, &format!(" are what {} gives", other.name), master.manifest.is_some());
     facts.json["master"] = other.name.clone().into();
     Ok(facts)
 }
@@ -101,12 +101,12 @@ pub fn check(session: &Session, from: &Path) -> Result<Facts, Failure> {
         let file = &file;
         Ok(move |part: &[u8], first: u64| converted(&TO_CAMERA, file, part, first, &mut back).map(drop))
     })?;
-    Ok(facts(records, "come each from a pixel", reading.manifest.is_some()))
+    Ok(facts(records, ", each from a pixel", reading.manifest.is_some()))
 }
 
 fn facts(records: u64, how: &str, manifest: bool) -> Facts {
     let held = if manifest { ", and it is as its manifest says" } else { "" };
-    Facts::new(format!("{} records {}{}", records, how, held), json!({"records": records, "manifest": manifest}))
+    Facts::new(format!("{} records{}{}", records, how, held), json!({"records": records, "manifest": manifest}))
 }
 
 #[cfg(test)]
