@@ -1,4 +1,7 @@
-/* Ropeinstant for C: the conversions of strips. Link with libropeinstant.a (`rt staticlib ropeinstant`), for x86-64 Linux.
+/* Ropeinstant for C: the conversions of strips, for x86-64 Linux. A program that uses them is compiled by
+ *
+ *   gcc program.c $(pkg-config --cflags --libs ropeinstant) -o program       with the installed library (`make install`)
+ *   gcc -Iinclude program.c target/staticlib/libropeinstant.a -o program      in the repository (`./ropeinstant --version` builds it)
  *
  * A strip is bytes: records of one size, one after the other, with no header; numbers are little endian. Each record begins with its
  * setting: curve (1 byte), width in bits (1 byte), EI (2 bytes). A pixel record has 10 bytes, with three codes of 2 bytes; a scene record
@@ -11,6 +14,9 @@
  *           of out has changed.
  * It never changes a byte of in, and writes *at in every case. This is proved, for any bytes and any lengths (crates/ropeinstant).
  *
+ * A call takes no memory but its stack, of which ROPEINSTANT_STACK bytes are enough (tests/stack.c measures it), keeps nothing from one to the
+ * next, and may be made on any thread.
+ *
  * What the caller owes, and no proof sees: each pointer is not null (even for a length of 0) and points to as many bytes as its
  * length says; in, out and *at do not overlap; nothing else writes them during the call. */
 #ifndef ROPEINSTANT_H
@@ -22,6 +28,9 @@
 #ifdef __cplusplus
 extern "C" {
 #endif
+
+/* The bytes of stack that a call needs at most, its callees' included. */
+#define ROPEINSTANT_STACK 49152
 
 /* Why a strip is refused; ropeinstant_words says it. */
 enum ropeinstant_refusal {

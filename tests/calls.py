@@ -9,7 +9,7 @@ NAMES = {PIXEL_TO_ACES: "to-aces", ACES_TO_PIXEL: "to-camera", PIXEL_TO_SCENE: "
 LOOKING = "verify", "check", "inspect"  # those that write no file
 OLD = b"the old output"
 GOOD = PIXEL.pack(3, 12, 800, 100, 0, 0)
-PROGRAM = os.path.abspath(sys.argv[1])
+PROGRAM = os.path.abspath(sys.argv[1]) if len(sys.argv) > 1 else sys.exit("usage: command.py PROGRAM [SEED [TEST..]], as in: tests/command.py tool/target/release/ropeinstant")
 NOBODY = {"user": 65534, "group": 65534, "extra_groups": []} if os.geteuid() == 0 else {}
 
 

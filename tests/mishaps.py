@@ -244,6 +244,16 @@ def replaced(folder):
     assert "keeps its mode" in call("to-aces", "--help")[1]
 
 
+def reels(folder):
+    """the generator of reels says how it is used"""
+    script = Path(__file__).parent / "reel.py"
+    for words in (), ("10",), ("many", folder / "reel"), ("10", folder / "reel", "1", "2"):
+        run = subprocess.run([script, *words], capture_output=True)
+        assert run.returncode == 1 and run.stderr.startswith(b"usage: reel.py BYTES FILE [SEED]") and b"Traceback" not in run.stderr, run
+    assert not list(folder.iterdir())
+
+
 TESTS = (
     empty_input, few_resources, signals, endless_pipe, names_in_messages, written_meanwhile, other_runs, crowded_folder, no_room, replaced,
+    reels,
 )
