@@ -89,7 +89,13 @@ fn of_conversion(conversion: &'static Conversion) -> Command {
 }
 
 fn looking(name: &'static str, about: &'static str, value: &'static str, help: &'static str) -> Command {
-    sub(name, about).override_usage(format!("ropeinstant {} [OPTIONS] {}..", name, value)).after_help(help::of_looking(name)).arg(path(value).help(help).num_args(1..)).args(splits()).args(saying()).args(holding())
+    sub(name, about)
+        .override_usage(format!("ropeinstant {} [OPTIONS] {}..", name, value))
+        .after_help(help::of_looking(name))
+        .arg(path(value).help(help).num_args(1..))
+        .args(splits())
+        .args(saying())
+        .args(holding())
 }
 
 fn path(name: &'static str) -> Arg {
@@ -105,7 +111,8 @@ fn help_flag() -> Arg {
 }
 
 fn splits() -> [Arg; 2] {
-    let number = |name, value, most: usize| Arg::new(name).long(name).value_name(value).value_parser(value_parser!(u64).range(1..=most as u64));
+    let number =
+        |name, value, most: usize| Arg::new(name).long(name).value_name(value).value_parser(value_parser!(u64).range(1..=most as u64));
     [
         number("threads", "N", MOST_THREADS).help("Threads, 1 to 256; else one for each core"),
         number("chunk", "RECORDS", MOST_CHUNK).help("Records that a thread takes at once, 1 to 1000000;\nelse 4096"),
@@ -117,15 +124,18 @@ fn saying() -> [Arg; 2] {
 }
 
 fn holding() -> [Arg; 2] {
-    [
-        flag("allow-empty", "Take an empty pipe for an input of 0 records"),
-        flag("no-manifest", "Leave the manifest of an input aside"),
-    ]
+    [flag("allow-empty", "Take an empty pipe for an input of 0 records"), flag("no-manifest", "Leave the manifest of an input aside")]
 }
 
 fn kind() -> Arg {
     let values = PossibleValuesParser::new(KINDS.map(|kind| kind.name));
-    Arg::new("kind").long("kind").value_name("KIND").value_parser(values).ignore_case(true).hide_possible_values(true).help("What the input holds, whatever its name says:\npixel, scene or aces")
+    Arg::new("kind")
+        .long("kind")
+        .value_name("KIND")
+        .value_parser(values)
+        .ignore_case(true)
+        .hide_possible_values(true)
+        .help("What the input holds, whatever its name says:\npixel, scene or aces")
 }
 
 fn shell() -> Arg {
@@ -145,7 +155,9 @@ pub fn parse(words: Vec<OsString>) -> Result<Request, (String, Failure)> {
 /// The subcommand that a command line names, for the help to point to.
 fn subcommand_in(words: &[OsString]) -> String {
     let first = words.iter().skip(1).find(|word| !word.as_bytes().starts_with(b"-"));
-    let known = first.and_then(|word| command().get_subcommands().map(|known| known.get_name().to_string()).find(|known| word.as_os_str() == known.as_str()));
+    let known = first.and_then(|word| {
+        command().get_subcommands().map(|known| known.get_name().to_string()).find(|known| word.as_os_str() == known.as_str())
+    });
     known.filter(|known| known != "help").unwrap_or_default()
 }
 
@@ -160,7 +172,9 @@ fn plain(words: &str) -> String {
 fn request(matches: &ArgMatches) -> Result<Request, Failure> {
     let (top_help, version) = (matches.get_flag("help"), matches.get_flag("version"));
     let (name, inner) = match matches.subcommand() {
-        Some(_) if top_help || version => return Err(Failure::usage("a subcommand behind --help or --version; its help is 'ropeinstant SUBCOMMAND --help'")),
+        Some(_) if top_help || version => {
+            return Err(Failure::usage("a subcommand behind --help or --version; its help is 'ropeinstant SUBCOMMAND --help'"))
+        }
         Some(found) => found,
         None if version => return Ok(Request::Say(concat!("ropeinstant ", env!("CARGO_PKG_VERSION"), "\n").to_string())),
         None if top_help => return help_of(None),
@@ -264,7 +278,14 @@ mod tests {
     fn wrong_usage_names_the_subcommand_whose_help_to_read() {
         assert_eq!(refused("").1, "ropeinstant: no subcommand");
         assert!(refused("to-acse a b").1.contains("'to-acse'"));
-        for line in ["to-aces a", "to-aces a b c", "to-aces --fast a b", "to-aces a b --threads 0", "to-aces a b --chunk 1000001", "to-aces --help a b c"] {
+        for line in [
+            "to-aces a",
+            "to-aces a b c",
+            "to-aces --fast a b",
+            "to-aces a b --threads 0",
+            "to-aces a b --chunk 1000001",
+            "to-aces --help a b c",
+        ] {
             assert_eq!(refused(line).0, "to-aces", "{}", line);
         }
         for line in ["--help more", "--version more", "help to-aces more", "demo more", "help nothing", "man more", "--help to-aces"] {

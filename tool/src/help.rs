@@ -17,7 +17,14 @@ const STATUS: &str = "Exit status: 0 done, 1 refused, 2 wrong usage, 3 reading o
 
 /// What stands below the general help.
 pub fn general() -> String {
-    format!("{}\n{}\n{}\n{}\n{}", file(), curves(), refusals(), "'ropeinstant SUBCOMMAND --help' says what it reads, writes and refuses.\n", STATUS)
+    format!(
+        "{}\n{}\n{}\n{}\n{}",
+        file(),
+        curves(),
+        refusals(),
+        "'ropeinstant SUBCOMMAND --help' says what it reads, writes and refuses.\n",
+        STATUS
+    )
 }
 
 /// How a file is laid out.
@@ -30,7 +37,14 @@ Three numbers follow, for red, green and blue:
     .to_string();
     for kind in KINDS {
         let sign = if kind.signed { "signed numbers" } else { "codes" };
-        text += &format!("    {:5} {} bytes, each number {}; {:15} (a name ends in {})\n", kind.name, kind.size(), kind.bytes, sign, kind.ending);
+        text += &format!(
+            "    {:5} {} bytes, each number {}; {:15} (a name ends in {})\n",
+            kind.name,
+            kind.size(),
+            kind.bytes,
+            sign,
+            kind.ending
+        );
     }
     text += "\
 Signed numbers are in units: one unit is 2^-24, the least positive half float.

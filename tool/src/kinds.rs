@@ -58,7 +58,10 @@ mod tests {
         let mut record = vec![0; 4];
         [-2_i64, i64::MIN, 7].iter().for_each(|number| record.extend(number.to_le_bytes()));
         assert_eq!(ACES.numbers(&record), [-2, i64::MIN, 7]);
-        assert_eq!(Kind { bytes: 6, ..ACES }.numbers(&[0, 0, 0, 0, 254, 255, 255, 255, 255, 255, 1, 0, 0, 0, 0, 0, 0, 0, 0, 0, 0, 128])[..2], [-2, 1]);
+        assert_eq!(
+            Kind { bytes: 6, ..ACES }.numbers(&[0, 0, 0, 0, 254, 255, 255, 255, 255, 255, 1, 0, 0, 0, 0, 0, 0, 0, 0, 0, 0, 128])[..2],
+            [-2, 1]
+        );
     }
 
     #[test]

@@ -56,7 +56,8 @@ fn ending() -> End {
         Request::Say(text) => say(&text).map(|()| End::Status(0)).map_err(|failure| (String::new(), failure)),
         Request::Do(job, options) => {
             let name = job.name();
-            let signals = Signals::new().map_err(|error| (name.to_string(), Cause::files("cannot wait for signals", &error).of("ropeinstant")));
+            let signals =
+                Signals::new().map_err(|error| (name.to_string(), Cause::files("cannot wait for signals", &error).of("ropeinstant")));
             perform(&job, &Session { options, signals: signals? }).map_err(|failure| (name.to_string(), failure))
         }
     });

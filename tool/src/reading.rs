@@ -83,7 +83,9 @@ pub fn kind_by_ending(path: &Path) -> Option<&'static Kind> {
 /// Scene and ACES records look alike: a file that is named as another kind is not read, unless the command line says what it holds.
 fn ending_fits(path: &Path, input: &Input, kind: &Kind, session: &Session) -> Result<(), Failure> {
     match (session.options.kind, kind_by_ending(path)) {
-        (Some(said), _) if said != kind => Err(Failure::usage(format!("{} records are read here, and --kind says {}", kind.name, said.name))),
+        (Some(said), _) if said != kind => {
+            Err(Failure::usage(format!("{} records are read here, and --kind says {}", kind.name, said.name)))
+        }
         (None, Some(ending)) if ending != kind => Err(Failure::usage(format!(
             "{} is named as {} records, and {} records are read here; if it holds these, say --kind {}",
             input.name,

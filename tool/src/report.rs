@@ -69,7 +69,10 @@ pub fn each(session: &Session, command: &str, files: &[PathBuf], act: impl Fn(&P
 fn sum_up(session: &Session, command: &str, files: usize, tally: &Tally) -> Result<(), Failure> {
     let [held, refused, usage, failed] = tally.0;
     if session.options.json {
-        return say(&format!("{}\n", json!({"command": command, "files": files, "held": held, "refused": refused, "failed": usage + failed, "status": tally.status()})));
+        return say(&format!(
+            "{}\n",
+            json!({"command": command, "files": files, "held": held, "refused": refused, "failed": usage + failed, "status": tally.status()})
+        ));
     }
     if session.options.quiet {
         return Ok(());
@@ -88,7 +91,9 @@ pub fn tell(session: &Session, command: &str, file: &str, answer: Result<Facts, 
         say(&format!("{}\n", object(command, file, status, &answer)))?;
     }
     match answer {
-        Ok(facts) if !session.options.json && !session.options.quiet && !facts.words.is_empty() => say(&format!("{}: {}\n", file, facts.words))?,
+        Ok(facts) if !session.options.json && !session.options.quiet && !facts.words.is_empty() => {
+            say(&format!("{}: {}\n", file, facts.words))?
+        }
         Err(failure) => complain(command, &failure),
         _ => (),
     }
