@@ -19,7 +19,16 @@ static uint8_t *in, *out;
 struct job {
     function *call;
     size_t in_len, out_len;
+    void (*other)(void);
 };
+
+static void float_pixels(void)
+{
+    double floats[3];
+    uint16_t codes[3];
+    if (ropeinstant_codes_to_floats(3, 16, 800, 100, 40000, 65535, floats) == 0)
+        ropeinstant_floats_to_codes(3, 16, 800, floats[0], floats[1], floats[2], codes);
+}
 
 static void *run(void *of)
 {
@@ -27,6 +36,8 @@ static void *run(void *of)
     uint64_t at;
     if (job->call)
         job->call(in, job->in_len, out, job->out_len, &at);
+    if (job->other)
+        job->other();
     return NULL;
 }
 
@@ -65,7 +76,7 @@ int main(void)
         {"ACES to pixel", ropeinstant_aces_to_pixel, 28, 10, ropeinstant_pixel_to_aces},
     };
     const size_t counts[] = {0, 1, 15, 16, 4096, 4097, MOST};
-    size_t none = touched((struct job){NULL, 0, 0}), greatest = 0;
+    size_t none = touched((struct job){NULL, 0, 0, NULL}), greatest = 0;
     uint8_t *pixels = malloc(MOST * 10);
     in = malloc(MOST * 28), out = malloc(MOST * 28);
     for (size_t k = 0; k < MOST; k++)
@@ -77,11 +88,12 @@ int main(void)
         if (conversions[c].before && conversions[c].before(pixels, MOST * 10, in, MOST * 28, &at) != 0)
             return 1;
         for (size_t k = 0; k < sizeof counts / sizeof *counts; k++) {
-            size_t used = touched((struct job){conversions[c].call, counts[k] * conversions[c].from, MOST * 28}) - none;
+            size_t used = touched((struct job){conversions[c].call, counts[k] * conversions[c].from, MOST * 28, NULL}) - none;
             most = used > most ? used : most;
         }
         printf("stack: %s takes %zu bytes\n", conversions[c].name, most);
         greatest = most > greatest ? most : greatest;
     }
+    printf("stack: float pixels take %zu bytes\n", touched((struct job){NULL, 0, 0, float_pixels}) - none);
     return greatest > PROMISED;
 }
