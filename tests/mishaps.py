@@ -157,13 +157,13 @@ def other_runs(folder):
     """a file that another run holds locked is left alone, wherever that run lives; what nobody holds is cleared, of this OUT only"""
     source, out = folder / "in", folder / "out"
     source.write_bytes(GOOD)
-    held, dead, other = (folder / f".{name}.ropeinstant-{k}" for name, k in (("out", 0), ("out", 5), ("other", 0)))
-    for path in held, dead, other:
+    held, dead, other, listing = (folder / f".{name}.ropeinstant-{k}" for name, k in (("out", 0), ("out", 5), ("other", 0), ("out.manifest", 0)))
+    for path in held, dead, other, listing:
         path.write_bytes(b"x")
     with open(held, "r+b") as file:
         fcntl.flock(file, fcntl.LOCK_EX)  # as a run in another container or on another machine does, which no process here shows
         assert call("to-aces", source, out) == (DONE, "", "")
-        assert held.exists() and other.exists() and not dead.exists() and len(out.read_bytes()) == 28
+        assert held.exists() and other.exists() and not dead.exists() and not listing.exists() and len(out.read_bytes()) == 28
     assert call("to-aces", source, out) == (DONE, "", "") and not held.exists() and other.exists()
     run = begin("to-aces", "-", out, "--chunk", "10", stdin=subprocess.PIPE)
     run.stdin.write(GOOD * 1000)

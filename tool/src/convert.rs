@@ -5,6 +5,7 @@ use crate::input::Input;
 use crate::library::Refusal;
 use crate::manifest::{beside, text, Of};
 use crate::output::Output;
+use crate::partial::clear;
 use crate::pipeline::room;
 use crate::reading::Reading;
 use crate::refusals::Refused;
@@ -70,6 +71,7 @@ pub fn convert(session: &Session, conversion: &Conversion, from: &Path, to: &Pat
 fn listed(session: &Session, target: &Target, input: &Input) -> Result<Option<Target>, Failure> {
     let path = beside(&target.path());
     if !session.options.manifest && path.symlink_metadata().is_err() {
+        clear(&target.folder, path.file_name().unwrap_or_default());
         return Ok(None);
     }
     let listed = Target::of(&path, input)?;

@@ -20,14 +20,17 @@ const KEPT: usize = 160;
 
 /// Makes a new file for an output, and locks it. What killed runs left for this output is removed.
 pub fn create(folder: &Path, output: &OsStr) -> io::Result<(PathBuf, File)> {
-    let names: Vec<PathBuf> = (0..MOST).map(|k| folder.join(name(output, k))).collect();
-    let taken: Vec<&PathBuf> = names.iter().filter(|path| !cleared(path)).collect();
-    for path in names.iter().filter(|path| !taken.contains(path)) {
-        if let Some(file) = made(path)? {
-            return Ok((path.clone(), file));
+    for path in clear(folder, output) {
+        if let Some(file) = made(&path)? {
+            return Ok((path, file));
         }
     }
     Err(io::Error::new(ErrorKind::Other, format!("{} other runs are writing it", MOST)))
+}
+
+/// Removes what killed runs left for an output: the names of new files that are free.
+pub fn clear(folder: &Path, output: &OsStr) -> Vec<PathBuf> {
+    (0..MOST).map(|k| folder.join(name(output, k))).filter(|path| cleared(path)).collect()
 }
 
 fn name(output: &OsStr, k: usize) -> OsString {
