@@ -1,7 +1,8 @@
-"""What an archive does with its masters: check, inspect and verify them, several at once too, and hold them to their manifests."""
+#!/usr/bin/env python3
+"""archive.py PROGRAM [TEST..]: what an archive does with its masters by the command: check, inspect and verify them, several at once too, and hold them to their manifests."""
 import hashlib, json, random
 
-from calls import DONE, FILES, GOOD, OLD, REFUSED, USAGE, begin, begun, call, holds, keeps, litter, until
+from calls import DONE, FILES, GOOD, OLD, REFUSED, USAGE, begin, begun, call, each, holds, keeps, litter, until
 from reel import reel
 from rules import NUMBERS, PIXEL
 
@@ -193,4 +194,5 @@ def inspected(folder):
     assert call("inspect", pixels, aces)[1].endswith("2 files: 2 held, 0 refused, 0 could not be read\n")
 
 
-TESTS = checked, held_to_master, manifests, unreplaced, inspected
+if __name__ == "__main__":
+    each((checked, held_to_master, manifests, unreplaced, inspected))

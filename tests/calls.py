@@ -1,5 +1,5 @@
 """What the tests of the command share: running it, and what must hold of a run that fails."""
-import os, resource, signal, subprocess, sys, time
+import os, resource, signal, subprocess, sys, tempfile, time
 from pathlib import Path
 
 from rules import ACES_TO_PIXEL, PIXEL, PIXEL_TO_ACES, PIXEL_TO_SCENE, SCENE_TO_PIXEL
@@ -9,7 +9,7 @@ NAMES = {PIXEL_TO_ACES: "to-aces", ACES_TO_PIXEL: "to-camera", PIXEL_TO_SCENE: "
 LOOKING = "verify", "check", "inspect"  # those that write no file
 OLD = b"the old output"
 GOOD = PIXEL.pack(3, 12, 800, 100, 0, 0)
-PROGRAM = os.path.abspath(sys.argv[1]) if len(sys.argv) > 1 else sys.exit("usage: command.py PROGRAM [SEED [TEST..]], as in: tests/command.py tool/target/release/ropeinstant")
+PROGRAM = os.path.abspath(sys.argv[1]) if len(sys.argv) > 1 else sys.exit(f"as in: {sys.argv[0]} tool/target/release/ropeinstant")
 NOBODY = {"user": 65534, "group": 65534, "extra_groups": []} if os.geteuid() == 0 else {}
 
 
@@ -71,3 +71,14 @@ def limited(**limits):
         for name, most in limits.items():
             resource.setrlimit(getattr(resource, f"RLIMIT_{name.upper()}"), (most, most))
     return limit
+
+
+def each(tests):
+    """run tests, or those that the command line names, each in a folder of its own"""
+    begin = time.time()
+    named = [test for test in tests if test.__name__ in sys.argv[2:]] if sys.argv[2:] else tests
+    for test in named:
+        with tempfile.TemporaryDirectory() as folder:
+            test(Path(folder))
+    name = os.path.basename(sys.argv[0]).removesuffix(".py")
+    print(f"{name}: {', '.join(test.__name__.replace('_', ' ') for test in named)}: {time.time() - begin:.0f} s")

@@ -1,12 +1,10 @@
 #!/usr/bin/env python3
-"""command.py PROGRAM [SEED [TEST..]]: try the command `ropeinstant` as a new user would: help, wrong usage, conversions held to the rules of 01
+"""command.py PROGRAM [SEED]: try the command `ropeinstant` as a new user would: help, wrong usage, conversions held to the rules of 01
 (rules.py), each refusal with its words, and each way in which reading and writing can fail, a full disk and a kill in mid-run among
-them (mishaps.py too), and what an archive does with its files (archive.py). Whatever fails must leave the old output as it was, and no litter
-that a rerun does not clear."""
+them. Whatever fails must leave the old output as it was, and no litter that a rerun does not clear."""
 import errno, hashlib, os, pty, random, re, shutil, signal, subprocess, sys, tempfile, time
 from pathlib import Path
 
-import archive, mishaps
 from calls import DONE, FILES, GOOD, LOOKING, NAMES, NOBODY, OLD, PROGRAM, REFUSED, USAGE, begun, call, holds, keeps, limited, litter, until
 from decoded import SETTINGS
 from peak import watched
@@ -370,11 +368,6 @@ def main():
         with tempfile.TemporaryDirectory() as folder:
             return test(Path(folder), *more)
 
-    if len(sys.argv) > 3:  # these tests of mishaps.py and archive.py only
-        for name in sys.argv[3:]:
-            apart(getattr(mishaps, name, None) or getattr(archive, name))
-            print(f"command: {name} holds")
-        return
     help_and_version()
     apart(wrong_usage)
     apart(demo)
@@ -385,12 +378,9 @@ def main():
         answer = apart(test, pick)
         if test is full_disk:
             print(f"command: a full disk: by a limit on files{', and a small file system' if answer else ' (no file system could be mounted)'}")
-    for test in unreadable, forbidden, links_and_modes, at_once, changed, injected, *mishaps.TESTS:
+    for test in unreadable, forbidden, links_and_modes, at_once, changed, injected:
         apart(test)
     print("command: whatever fails, a kill among them, leaves the old output and no litter that a rerun does not clear")
-    for test in archive.TESTS:
-        apart(test)
-    print("command: masters are checked, inspected, verified against their pixels and held to their manifests")
     print(f"command: a peak of {apart(bounded, pick):.1f} MB for a file of 30 MB; {time.time() - begin:.0f} s in all")
 
 

@@ -1,10 +1,11 @@
-"""Mishaps that an operator meets: an upstream that failed, few processes or little memory, signals, an endless pipe, a file that is written
+#!/usr/bin/env python3
+"""mishaps.py PROGRAM [TEST..]: mishaps that an operator of the command meets: an upstream that failed, few processes or little memory, signals, an endless pipe, a file that is written
 while it is read, other runs, a crowded folder, a full disk, and what a replaced file keeps. Each test fails on a command without its care."""
 import fcntl, os, shutil, signal, stat, subprocess, time
 from pathlib import Path
 
-from calls import DONE, FILES, GOOD, NOBODY, OLD, PROGRAM, REFUSED, USAGE, begin, begun, call, holds, keeps, limited, litter, size, until
-from rules import NUMBERS, PIXEL
+from calls import DONE, FILES, GOOD, NOBODY, OLD, PROGRAM, REFUSED, USAGE, begin, begun, call, each, holds, keeps, limited, litter, size, until
+from rules import PIXEL
 
 BAD = PIXEL.pack(3, 10, 800, 0, 1024, 0)  # refused by 6
 
@@ -253,7 +254,8 @@ def reels(folder):
     assert not list(folder.iterdir())
 
 
-TESTS = (
-    empty_input, few_resources, signals, endless_pipe, names_in_messages, written_meanwhile, other_runs, crowded_folder, no_room, replaced,
-    reels,
-)
+if __name__ == "__main__":
+    each((
+        empty_input, few_resources, signals, endless_pipe, names_in_messages, written_meanwhile, other_runs, crowded_folder, no_room, replaced,
+        reels,
+    ))
