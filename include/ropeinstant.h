@@ -1,15 +1,21 @@
-/* Ropeinstant for C: the conversions of strips. Link with libropeinstant.a (`rt staticlib ropeinstant`), for x86-64 Linux.
+/* Ropeinstant for C: the conversions of strips and of float pixels, for x86-64 Linux. A program that uses them is compiled by
+ *
+ *   gcc program.c $(pkg-config --cflags --libs ropeinstant) -o program       with the installed library (`make install`)
+ *   gcc -Iinclude program.c target/staticlib/libropeinstant.a -o program      in the repository (`./ropeinstant --version` builds it)
  *
  * A strip is bytes: records of one size, one after the other, with no header; numbers are little endian. Each record begins with its
  * setting: curve (1 byte), width in bits (1 byte), EI (2 bytes). A pixel record has 10 bytes, with three codes of 2 bytes; a scene record
  * and an ACES record have 28, with three signed numbers of 8 bytes in units of 2^-24.
  *
- * Every function reads in[0 .. in_len) and returns
+ * Every function over strips reads in[0 .. in_len) and returns
  *   0       converted: *at is the count of records. Each record is written in its own stretch of the output, from out[0] on, and the bytes
  *           beyond the last are unchanged;
  *   else    refused: the number is one of the causes below, *at is the index of the first refused record (0 for 1 and 2), and no byte
  *           of out has changed.
  * It never changes a byte of in, and writes *at in every case. This is proved, for any bytes and any lengths (crates/ropeinstant).
+ *
+ * A call takes no memory but its stack, of which ROPEINSTANT_STACK bytes are enough (tests/stack.c measures it), keeps nothing from one to the
+ * next, and may be made on any thread.
  *
  * What the caller owes, and no proof sees: each pointer is not null (even for a length of 0) and points to as many bytes as its
  * length says; in, out and *at do not overlap; nothing else writes them during the call. */
@@ -23,7 +29,10 @@
 extern "C" {
 #endif
 
-/* Why a strip is refused; ropeinstant_words says it. */
+/* The bytes of stack that a call needs at most, its callees' included. */
+#define ROPEINSTANT_STACK 49152
+
+/* Why a strip or a float pixel is refused; ropeinstant_words says it. */
 enum ropeinstant_refusal {
     ROPEINSTANT_PARTIAL_RECORD = 1,
     ROPEINSTANT_SHORT_OUTPUT = 2,
@@ -32,6 +41,8 @@ enum ropeinstant_refusal {
     ROPEINSTANT_UNKNOWN_EI = 5,
     ROPEINSTANT_CODE_ABOVE_TOP = 6,
     ROPEINSTANT_SCENE_OUT_OF_RANGE = 7,
+    ROPEINSTANT_FLOAT_NOT_FINITE = 8,
+    ROPEINSTANT_FLOAT_OUT_OF_RANGE = 9,
     ROPEINSTANT_NO_PIXEL = 10,
 };
 
@@ -47,6 +58,8 @@ static inline const char *ropeinstant_words(uint32_t number)
     case ROPEINSTANT_UNKNOWN_EI: return "the EI is not one of the curve's";
     case ROPEINSTANT_CODE_ABOVE_TOP: return "a code is above the top code of its width";
     case ROPEINSTANT_SCENE_OUT_OF_RANGE: return "a scene number to encode is outside -2^40 to 2^40";
+    case ROPEINSTANT_FLOAT_NOT_FINITE: return "a float is infinite or not a number";
+    case ROPEINSTANT_FLOAT_OUT_OF_RANGE: return "a float is below -65536 or above 65536";
     case ROPEINSTANT_NO_PIXEL: return "no pixel of the setting has this ACES triple";
     default: return "no such refusal";
     }
@@ -65,6 +78,16 @@ uint32_t ropeinstant_pixel_to_aces(const uint8_t *in, size_t in_len, uint8_t *ou
  * A strip of 16 to 4096 records is converted in one pass, with a buffer of 40 KiB on the stack, and any other in two, which take almost
  * twice the time: a longer strip may be cut at a record's border and converted in parts. */
 uint32_t ropeinstant_aces_to_pixel(const uint8_t *in, size_t in_len, uint8_t *out, size_t out_len, uint64_t *at);
+
+/* Float pixels, one at a time. Both return 0, or the number of the refusal, and then nothing that was lent has changed. This is proved, for
+ * any numbers.
+ *
+ * Decoding: the three codes' scene numbers as floats, exactly: a scene number over 2^24. Refuses by 3 to 6. */
+uint32_t ropeinstant_codes_to_floats(uint8_t curve, uint8_t width, uint16_t ei, uint16_t red, uint16_t green, uint16_t blue, double floats[3]);
+
+/* Encoding: each float, taken to the nearest unit, to the nearest code; a float pixel that was decoded gives its codes again. Refuses by
+ * 3 to 5, 8 and 9. */
+uint32_t ropeinstant_floats_to_codes(uint8_t curve, uint8_t width, uint16_t ei, double red, double green, double blue, uint16_t codes[3]);
 
 #ifdef __cplusplus
 }

@@ -2,59 +2,31 @@
 """command.py PROGRAM [SEED]: try the command `ropeinstant` as a new user would: help, wrong usage, conversions held to the rules of 01
 (rules.py), each refusal with its words, and each way in which reading and writing can fail, a full disk and a kill in mid-run among
 them. Whatever fails must leave the old output as it was, and no litter that a rerun does not clear."""
-import errno, hashlib, os, pty, random, re, resource, shutil, signal, subprocess, sys, tempfile, time
+import errno, hashlib, os, pty, random, re, shutil, signal, subprocess, sys, tempfile, time
 from pathlib import Path
 
+from calls import DONE, FILES, GOOD, LOOKING, NAMES, NOBODY, OLD, PROGRAM, REFUSED, USAGE, begun, call, holds, keeps, limited, litter, until
 from decoded import SETTINGS
 from peak import watched
 from reel import reel
 from rules import ACES_TO_PIXEL, LIMIT, NUMBERS, PIXEL, PIXEL_TO_ACES, PIXEL_TO_SCENE, READ, SCENE_TO_PIXEL, WRITTEN, convert, numbers
 from strips import jobs
 
-DONE, REFUSED, USAGE, FILES = range(4)  # exit statuses
-NAMES = {PIXEL_TO_ACES: "to-aces", ACES_TO_PIXEL: "to-camera", PIXEL_TO_SCENE: "to-scene", SCENE_TO_PIXEL: "from-scene"}
 CHOSEN = [s for s in SETTINGS if s[1] < 16]
 CHANNELS = "red", "green", "blue"
-OLD = b"the old output"
-GOOD = PIXEL.pack(3, 12, 800, 100, 0, 0)
-PROGRAM = os.path.abspath(sys.argv[1])
-
-
-def call(*words, data=None, **more):
-    """run the command: its status, and what it says on standard output and standard error"""
-    done = subprocess.run([PROGRAM, *map(str, words)], input=data, capture_output=True, **more)
-    return done.returncode, done.stdout.decode(), done.stderr.decode()
-
-
-def litter(folder):
-    return [p.name for p in Path(folder).iterdir() if ".ropeinstant-" in p.name]
-
-
-def holds(got, status, words=""):
-    """that a run ended with this status, and says these words where it did not succeed, and nothing else"""
-    assert got[0] == status and words in got[2] and (got[2] or status == DONE), (status, words, got)
-    assert "panicked" not in got[2] and (status == DONE or not got[1]), got
-
-
-def keeps(out, *words, status, saying, **more):
-    """that a run fails, leaves the old output, its mode and its inode, and no litter"""
-    out.write_bytes(OLD)
-    before = out.stat()
-    holds(call(*words, **more), status, saying)
-    after = out.stat()
-    assert out.read_bytes() == OLD and (before.st_ino, before.st_mode, before.st_mtime_ns) == (after.st_ino, after.st_mode, after.st_mtime_ns)
-    assert not litter(out.parent), (words, litter(out.parent))
 
 
 # ---- help and wrong usage
 
 def help_and_version():
     status, said, wrong = call("--help")
-    assert status == DONE and not wrong and all(f"ropeinstant {name} IN" in said for name in (*NAMES.values(), "verify")), said
-    for name in (*NAMES.values(), "verify"):
+    assert status == DONE and not wrong and all(f"\n  {name} " in said for name in (*NAMES.values(), *LOOKING, "demo")), said
+    for words in "160, 200, 250, 320, 400, 500, 640, 800, 1000, 1280, 1600", "one unit is 2^-24", "10  no pixel of the setting", "no OpenEXR file":
+        assert words in said, said
+    for name in (*NAMES.values(), *LOOKING):
         for words in ((name, "--help"), (name, "-h"), ("help", name)):
             status, said, wrong = call(*words)
-            assert status == DONE and not wrong and said.startswith(f"ropeinstant {name} IN") and "Exit status: 0 done" in said, said
+            assert status == DONE and not wrong and f"\nUsage: ropeinstant {name} [OPTIONS]" in said and "Exit status: 0 done" in said, said
     status, said, wrong = call("--version")
     assert status == DONE and not wrong and re.fullmatch(r"ropeinstant \d+\.\d+\.\d+\n", said), said
     with open("/dev/full", "wb") as full:
@@ -65,19 +37,31 @@ def wrong_usage(folder):
     source, out = folder / "in", folder / "out"
     source.write_bytes(GOOD)
     for words, saying in (
-        ((), "no subcommand"), (("to-acse", source, out), "'to-acse'"), (("to-aces",), "needs IN and OUT"), (("to-aces", source), "needs IN and OUT"),
-        (("to-aces", source, out, out), "has 3 names"), (("verify",), "needs IN"), (("verify", source, out), "needs IN"),
-        (("to-aces", source, out, "--fast"), "'--fast'"), (("to-aces", source, out, "--threads"), "--threads needs"),
-        (("to-aces", source, out, "--threads", "0"), "--threads needs"), (("to-aces", source, out, "--chunk", "many"), "--chunk needs"),
+        ((), "no subcommand"), (("to-acse", source, out), "'to-acse'"), (("to-aces",), "IN OUT"), (("to-aces", source), "IN OUT"),
+        (("to-aces", source, out, out), "IN OUT"), (("verify",), "verify [OPTIONS] IN"), (("check",), "check [OPTIONS] ACES"),
+        (("to-aces", source, out, "--fast"), "'--fast'"), (("to-aces", source, out, "--threads"), "--threads"),
+        (("to-aces", source, out, "--threads", "0"), "1..=256"), (("to-aces", source, out, "--chunk", "many"), "--chunk"),
         (("to-aces", source, "-"), "a pipe cannot promise"), (("to-aces", source, source), "the same file"),
+        (("verify", source, "--pair"), "two names"), (("--help", "more"), "'more'"), (("--version", "more"), "'more'"),
+        (("help", "to-aces", "more"), "'more'"), (("to-aces", source, out, out, "--help"), "'"), (("demo", "more"), "'more'"), (("help", "none"), "'none'"),
     ):
         keeps(out, *words, status=USAGE, saying=saying)
         assert source.read_bytes() == GOOD
+        pointed = f"Try 'ropeinstant {words[0]} --help'." if words[:1] in (("to-aces",), ("verify",), ("check",), ("demo",)) else "Try 'ropeinstant --help'."
+        assert call(*words)[2].endswith(f"{pointed}\n"), (words, call(*words))
     link = folder / "link"
     os.link(source, link)
     keeps(out, "to-aces", source, link, status=USAGE, saying="the same file")
     with open(source, "rb") as file:
         keeps(out, "to-aces", "-", link, status=USAGE, saying="the same file", stdin=file)
+
+
+def demo(folder):
+    """a reel of every setting goes to ACES and back, a damaged copy is refused, and nothing stays"""
+    status, said, wrong = call("demo", env=dict(os.environ, TMPDIR=str(folder)))
+    assert status == DONE and not wrong and not list(folder.iterdir()), (status, said, wrong)
+    for words in "A reel of 35 settings", "reel.pixels has 350000 bytes", "reel.aces has 980000 bytes", "back, byte for byte", "refused 10", "as it was":
+        assert words in said, said
 
 
 # ---- the rules
@@ -116,10 +100,12 @@ def held_to_rules(folder, pick, table, count):
         run = NAMES[conversion], "-" if piped else source, out, *options
         how, number, *at = answer.replace("done", "done 0").split()
         if how == "done":
-            assert call(*run, data=data if piped else None) == (DONE, "", ""), (run, data.hex())
+            options = ("--allow-empty", "--quiet") if not data else ()
+            assert call(*run, *options, data=data if piped else None) == (DONE, "", ""), (run, data.hex())
             assert out.read_bytes() == made and not litter(folder), (run, data.hex())
         else:
-            keeps(out, *run, status=REFUSED, saying=words_of(int(number), int(at[0]), conversion, data), data=data if piped else None)
+            saying = f"{'standard input' if piped else source}: {words_of(int(number), int(at[0]), conversion, data)}"
+            keeps(out, *run, status=REFUSED, saying=saying, data=data if piped else None)
         cause = "done" if how == "done" else f"refused {number}"
         seen[cause] = seen.get(cause, 0) + 1
     assert all(cause in seen for cause in ("done", *(f"refused {n}" for n in (1, 3, 4, 5, 6, 7, 10)))), seen
@@ -168,8 +154,9 @@ def verified(folder, pick):
     source = folder / "in"
     for data in b"", GOOD, b"".join(reel(pick, 100000)):
         source.write_bytes(data)
-        assert call("verify", source) == (DONE, f"{len(data) // 10} records come back the same\n", "")
-        assert call("verify", "-", data=data) == (DONE, f"{len(data) // 10} records come back the same\n", "")
+        said = f"{len(data) // 10} records come back the same\n"
+        assert call("verify", source)[:2] == (DONE, f"{source}: {said}")
+        assert call("verify", "-", "--allow-empty", data=data)[:2] == (DONE, f"standard input: {said}")
     source.write_bytes(GOOD * 5 + b"\3\14")
     holds(call("verify", source), REFUSED, "refused 1: the input has 52 bytes")
     source.write_bytes(GOOD * 5 + PIXEL.pack(3, 10, 800, 0, 0, 1024))
@@ -207,28 +194,28 @@ def bar(folder, pick):
         except OSError:  # the terminal's other end is closed
             break
     os.close(master)
-    assert run.communicate()[0] == b"200000 records come back the same\n" and run.returncode == DONE
-    assert re.search(rb"verify \[#*\.*\] +\d+% of 2.0 MB, \d+\.\d [kM]B/s, \d:\d\d left", shown), shown
-    assert shown.endswith(b"\r\x1b[K"), shown
+    assert run.communicate()[0].endswith(b": 200000 records come back the same\n") and run.returncode == DONE
+    assert re.search(rb"verify \[#*\.*\] \d+% of \d\.\d+ MiB, \d+\.\d+ [KM]iB/s, \d+m?s left", shown), shown
+    assert shown.endswith(b"\x1b[2K"), shown
 
 
 # ---- reading and writing that fails
 
 def unreadable(folder):
     source, out = folder / "in", folder / "out"
-    keeps(out, "to-aces", folder / "none", out, status=FILES, saying="none: No such file")
+    keeps(out, "to-aces", folder / "none", out, status=FILES, saying="none: cannot read: No such file")
     keeps(out, "to-aces", folder, out, status=FILES, saying="it is a folder")
-    keeps(out, "to-aces", "/proc/self/mem", out, status=FILES, saying="cannot read /proc/self/mem: Input/output error")
+    keeps(out, "to-aces", "/proc/self/mem", out, status=FILES, saying="/proc/self/mem: cannot read: Input/output error")
     source.write_bytes(GOOD)
     holds(call("to-aces", source, folder / "none" / "out"), FILES, "its folder: No such file")
     holds(call("to-aces", source, folder), FILES, "it is a folder")
     holds(call("to-aces", source, "/dev/full"), FILES, "it is not a regular file")
     os.mkfifo(folder / "fifo")
     holds(call("to-aces", source, folder / "fifo"), FILES, "it is not a regular file")
-    holds(call("to-aces", source, ""), FILES, "cannot write")
+    holds(call("to-aces", source, ""), USAGE, "[OUT]")
     holds(call("to-aces", source, f"{folder}/new/"), FILES, "there is no such folder")
-    holds(call("to-aces", source, "/proc/out"), FILES, "cannot write /proc/out")
-    holds(call("to-aces", source, folder / ("x" * 250)), FILES, "File name too long")
+    holds(call("to-aces", source, "/proc/out"), FILES, "/proc/out: cannot write")
+    holds(call("to-aces", source, folder / ("x" * 256)), FILES, "File name too long")
     assert not litter(folder)
 
 
@@ -242,12 +229,11 @@ def forbidden(folder):
         path.chmod(mode)
     closed = folder / "closed"
     closed.mkdir(mode=0o555)
-    who = {"user": 65534, "group": 65534, "extra_groups": []} if os.geteuid() == 0 else {}
     for words, saying in (
-        ((secret, folder / "new"), "secret: Permission denied"), ((source, out), "out: Permission denied"),
+        ((secret, folder / "new"), "secret: cannot read: Permission denied"), ((source, out), "out: cannot write: Permission denied"),
         ((source, closed / "new"), "a new file beside it: Permission denied"),
     ):
-        run = subprocess.run([program, "to-aces", *words], capture_output=True, **who)
+        run = subprocess.run([program, "to-aces", *words], capture_output=True, **NOBODY)
         assert run.returncode == FILES and saying in run.stderr.decode(), run
     assert out.read_bytes() == OLD and not litter(folder) and not (folder / "new").exists() and not list(closed.iterdir())
     closed.chmod(0o755)
@@ -269,21 +255,11 @@ def links_and_modes(folder):
     assert call("to-aces", "--", "in", "-out", cwd=folder) == (DONE, "", "") and len((folder / "-out").read_bytes()) == 28
 
 
-def limited(size, ignored):
-    """for a process about to begin: files of at most this size; the signal for more is ignored, so that writing fails, or kills"""
-    def limit():
-        signal.signal(signal.SIGXFSZ, signal.SIG_IGN if ignored else signal.SIG_DFL)
-        resource.setrlimit(resource.RLIMIT_FSIZE, (size, size))
-    return limit
-
-
 def full_disk(folder, pick):
     """a limit on the size of files, and a small file system where one can be mounted: whether it could"""
     source, out, small = folder / "in", folder / "out", folder / "small"
     source.write_bytes(b"".join(reel(pick, 100000)))
-    keeps(out, "to-aces", source, out, status=FILES, saying="File too large", preexec_fn=limited(1 << 20, True))
-    status, _, _ = call("to-aces", source, out, preexec_fn=limited(1 << 20, False))
-    assert status == -signal.SIGXFSZ and out.read_bytes() == OLD and len(litter(folder)) == 1
+    keeps(out, "to-aces", source, out, status=FILES, saying="File too large", preexec_fn=limited(fsize=1 << 20))
     assert call("to-aces", source, out) == (DONE, "", "") and not litter(folder)
     small.mkdir()
     if subprocess.run(["mount", "-t", "tmpfs", "-o", "size=1m", "tmpfs", small], capture_output=True).returncode:
@@ -295,26 +271,6 @@ def full_disk(folder, pick):
     finally:
         subprocess.run(["umount", small], check=True)
     return True
-
-
-def until(what, seconds=20):
-    end = time.time() + seconds
-    while not what():
-        assert time.time() < end
-        time.sleep(0.001)
-
-
-def begun(folder):
-    """whether a run has written something that is not yet the output"""
-    return any(size(folder / name) for name in litter(folder))
-
-
-def size(path):
-    """of a file that may have gone"""
-    try:
-        return path.stat().st_size
-    except FileNotFoundError:
-        return 0
 
 
 def killed(folder, pick):
@@ -381,9 +337,11 @@ def injected(folder):
     for fault, error, saying in (
         ("read:1", errno.EIO, "cannot read"), ("read:5", errno.EIO, "Input/output error"), ("pwrite:1", errno.ENOSPC, "No space left on device"),
         ("pwrite:7", errno.EDQUOT, "Disk quota exceeded"), ("fsync:1", errno.EIO, "Input/output error"), ("rename:1", errno.EACCES, "Permission denied"),
+        ("fallocate:1", errno.ENOSPC, "No space left on device"),
     ):
         keeps(out, "to-aces", source, out, "--chunk=1000", status=FILES, saying=saying, env=under(FAULT=f"{fault}:{error}"))
-    for fault in "read:3", "pwrite:3":  # interrupted: it goes on
+    assert call("to-aces", source, out, env=under(FAULT=f"fallocate:1:{errno.EOPNOTSUPP}")) == (DONE, "", "")  # a file system that gives no room
+    for fault in "read:3", "pwrite:3", "fallocate:1":  # interrupted: it goes on
         assert call("to-aces", source, out, "--chunk=1000", env=under(FAULT=f"{fault}:{errno.EINTR}")) == (DONE, "", "")
         assert len(out.read_bytes()) == 280000
     assert call("to-aces", source, out, env=under(FAULT=f"fsync:2:{errno.EINVAL}")) == (DONE, "", "")  # a file system that flushes no folder
@@ -412,6 +370,7 @@ def main():
 
     help_and_version()
     apart(wrong_usage)
+    apart(demo)
     print("command: help and version, and wrong usage, which touches no file")
     print(f"command: converted or refused as the rules say, in words, by files and pipes: {apart(held_to_rules, pick, table, 400)}")
     print(f"command: the same bytes, and the same first refusal, in {apart(any_split, pick)} splits of chunk and threads")

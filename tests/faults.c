@@ -1,9 +1,10 @@
 /* Loaded before the C library (LD_PRELOAD), for the tests of the command: makes one call fail, and notes the calls that keep a file.
  *
- *   FAULT=CALL:N:ERRNO   the N-th of these calls fails with this error: read, pwrite, fsync, rename. Reads of up to 1000 bytes, which are the
- *                        start of the program, are not counted
- *   NOTES=FILE           a line for each fsync (file or folder) and rename, in order */
+ *   FAULT=CALL:N:ERRNO   the N-th of these calls fails with this error: read, pwrite, fsync, rename, fallocate. Reads of up to 1000 bytes,
+ *                        which are the start of the program, and of files that have no size, as in /proc, are not counted
+ *   NOTES=FILE           a line for each fsync (file or folder), rename and opendir, in order */
 #define _GNU_SOURCE
+#include <dirent.h>
 #include <dlfcn.h>
 #include <errno.h>
 #include <fcntl.h>
@@ -40,7 +41,9 @@ ssize_t read(int fd, void *buffer, size_t length)
 {
     static int count;
     ssize_t (*real)(int, void *, size_t) = dlsym(RTLD_NEXT, "read");
-    return length > 1000 && fails("read", &count) ? -1 : real(fd, buffer, length);
+    struct stat about;
+    int counted = length > 1000 && fstat(fd, &about) == 0 && about.st_size > 0;
+    return counted && fails("read", &count) ? -1 : real(fd, buffer, length);
 }
 
 ssize_t pwrite64(int fd, const void *buffer, size_t length, off64_t offset)
@@ -48,6 +51,13 @@ ssize_t pwrite64(int fd, const void *buffer, size_t length, off64_t offset)
     static int count;
     ssize_t (*real)(int, const void *, size_t, off64_t) = dlsym(RTLD_NEXT, "pwrite64");
     return fails("pwrite", &count) ? -1 : real(fd, buffer, length, offset);
+}
+
+int fallocate(int fd, int mode, off_t offset, off_t length)
+{
+    static int count;
+    int (*real)(int, int, off_t, off_t) = dlsym(RTLD_NEXT, "fallocate");
+    return fails("fallocate", &count) ? -1 : real(fd, mode, offset, length);
 }
 
 int fsync(int fd)
@@ -65,4 +75,11 @@ int rename(const char *from, const char *to)
     int (*real)(const char *, const char *) = dlsym(RTLD_NEXT, "rename");
     note("rename");
     return fails("rename", &count) ? -1 : real(from, to);
+}
+
+DIR *opendir(const char *name)
+{
+    DIR *(*real)(const char *) = dlsym(RTLD_NEXT, "opendir");
+    note("opendir");
+    return real(name);
 }

@@ -30,6 +30,8 @@ def reel(pick, records):
 
 
 def main():
+    if len(sys.argv) not in (3, 4) or not all(word.isdigit() for word in sys.argv[1:2] + sys.argv[3:]):
+        sys.exit(f"usage: {__doc__}\nas in: tests/reel.py 1000000000 shot.pixels")
     pick = random.Random(int(sys.argv[3]) if len(sys.argv) > 3 else 1)
     with open(sys.argv[2], "wb") as file:
         for data in reel(pick, int(sys.argv[1]) // 10):

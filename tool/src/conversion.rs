@@ -1,16 +1,60 @@
-//! The four conversions: the bytes of a record that each reads and writes, and its function of the library.
+//! The conversions: the one table of their names, the kinds that each reads and writes, its function of the library and its refusals.
+use crate::kinds::{Kind, ACES, PIXEL, SCENE};
 use crate::library::{aces_to_pixel, pixel_to_aces, pixel_to_scene, scene_to_pixel, Answer};
 
-const PIXEL: usize = 10;
-const NUMBERS: usize = 28; // a scene record or an ACES record
-
 pub struct Conversion {
-    pub from: usize,
-    pub to: usize,
+    pub name: &'static str,
+    pub about: &'static str,
+    pub from: &'static Kind,
+    pub to: &'static Kind,
     pub convert: fn(&[u8], &mut [u8]) -> Answer,
+    /// The numbers by which it refuses.
+    pub refusals: &'static [u32],
 }
 
-pub const TO_ACES: Conversion = Conversion { from: PIXEL, to: NUMBERS, convert: pixel_to_aces };
-pub const TO_CAMERA: Conversion = Conversion { from: NUMBERS, to: PIXEL, convert: aces_to_pixel };
-pub const TO_SCENE: Conversion = Conversion { from: PIXEL, to: NUMBERS, convert: pixel_to_scene };
-pub const FROM_SCENE: Conversion = Conversion { from: NUMBERS, to: PIXEL, convert: scene_to_pixel };
+pub const TO_ACES: Conversion = Conversion {
+    name: "to-aces",
+    about: "Converts pixel records to ACES records",
+    from: &PIXEL,
+    to: &ACES,
+    convert: pixel_to_aces,
+    refusals: &[1, 3, 4, 5, 6],
+};
+
+pub const TO_CAMERA: Conversion = Conversion {
+    name: "to-camera",
+    about: "Converts ACES records back to the pixels that gave them",
+    from: &ACES,
+    to: &PIXEL,
+    convert: aces_to_pixel,
+    refusals: &[1, 3, 4, 5, 10],
+};
+
+pub const TO_SCENE: Conversion = Conversion {
+    name: "to-scene",
+    about: "Converts pixel records to scene records",
+    from: &PIXEL,
+    to: &SCENE,
+    convert: pixel_to_scene,
+    refusals: &[1, 3, 4, 5, 6],
+};
+
+pub const FROM_SCENE: Conversion = Conversion {
+    name: "from-scene",
+    about: "Converts scene records to pixels with the nearest codes",
+    from: &SCENE,
+    to: &PIXEL,
+    convert: scene_to_pixel,
+    refusals: &[1, 3, 4, 5, 7],
+};
+
+pub const CONVERSIONS: [&Conversion; 4] = [&TO_ACES, &TO_CAMERA, &TO_SCENE, &FROM_SCENE];
+
+/// The conversion that judges records of a kind.
+pub fn judging(kind: &Kind) -> &'static Conversion {
+    match kind.name {
+        "pixel" => &TO_ACES,
+        "scene" => &FROM_SCENE,
+        _ => &TO_CAMERA,
+    }
+}

@@ -1,137 +1,181 @@
-//! The texts of `--help`.
-use crate::args::{CHUNK, MOST_CHUNK, MOST_THREADS};
+//! The texts of the help that are not the options: what a file is, the tables, and what each subcommand promises. No line is longer than 80.
+use crate::conversion::Conversion;
+use crate::kinds::KINDS;
+use crate::refusals::REFUSALS;
+use crate::settings::CURVES;
 
-pub fn text(subcommand: Option<&str>) -> String {
-    match subcommand {
-        None => GENERAL.to_string(),
-        Some("verify") => format!("{}\n{}\n{}", VERIFY, INPUT, options()),
-        Some(name) => format!("{}\n{}\n{}\n{}", about(name), INPUT, OUTPUT, options()),
-    }
-}
+pub const ABOUT: &str = "\
+Converts the codes of ARRI cameras (LogC4, LogC3) to scene numbers and ACES
+numbers, and back, exactly.";
+pub const VERIFY: &str = "Looks whether pixels come back from ACES, or from a master";
+pub const CHECK: &str = "Looks whether every record of a master comes from a pixel";
+pub const INSPECT: &str = "Shows what a file holds";
+pub const DEMO: &str = "Takes a reel of every setting to ACES and back; needs no input";
+pub const PAIR: &str = "Hold the first file, pixels, to the second, its master";
 
-const GENERAL: &str = "\
-ropeinstant converts the codes of ARRI cameras (LogC4, LogC3) to scene numbers
-and ACES numbers, and back, exactly.
+const STATUS: &str = "Exit status: 0 done, 1 refused, 2 wrong usage, 3 reading or writing failed.\n";
 
-    ropeinstant to-aces IN OUT      pixel records to ACES records
-    ropeinstant to-camera IN OUT    ACES records back to the pixel records with
-                                    exactly these ACES numbers
-    ropeinstant to-scene IN OUT     pixel records to scene records
-    ropeinstant from-scene IN OUT   scene records to the pixel records with the
-                                    nearest codes
-    ropeinstant verify IN           pixel records to ACES and back, compared;
-                                    writes no file
-
-    ropeinstant SUBCOMMAND --help   what it reads, writes and refuses; options
-    ropeinstant --version
-
-A file is records of one size with no header; numbers are little endian. Each
-record begins with its setting: curve (1 byte, 3 or 4), width in bits (1 byte)
-and EI (2 bytes; 0 under curve 4). A pixel record has 10 bytes: the setting and
-the codes of red, green and blue, 2 bytes each. A scene record and an ACES
-record have 28: the setting and three signed numbers of 8 bytes, in units of
-2^-24. Records of several settings may share a file.
-
-Exit status: 0 done, 1 refused, 2 wrong usage, 3 reading or writing failed.
-";
-
-fn about(name: &str) -> &'static str {
-    match name {
-        "to-aces" => TO_ACES,
-        "to-camera" => TO_CAMERA,
-        "to-scene" => TO_SCENE,
-        _ => FROM_SCENE,
-    }
-}
-
-const TO_ACES: &str = "\
-ropeinstant to-aces IN OUT
-
-Converts pixel records (10 bytes) to ACES records (28 bytes). Refuses by
-    1        the input is not a whole number of records
-    3, 4, 5  the curve, width or EI is not known
-    6        a code is above the top code of its width
-";
-
-const TO_CAMERA: &str = "\
-ropeinstant to-camera IN OUT
-
-Converts ACES records (28 bytes) back to the pixel records (10 bytes) with
-exactly these ACES numbers: what to-aces made gives the camera's codes again.
-Refuses by
-    1        the input is not a whole number of records
-    3, 4, 5  the curve, width or EI is not known
-    10       no pixel of the setting has these ACES numbers
-";
-
-const TO_SCENE: &str = "\
-ropeinstant to-scene IN OUT
-
-Converts pixel records (10 bytes) to scene records (28 bytes). Refuses by
-    1        the input is not a whole number of records
-    3, 4, 5  the curve, width or EI is not known
-    6        a code is above the top code of its width
-";
-
-const FROM_SCENE: &str = "\
-ropeinstant from-scene IN OUT
-
-Converts scene records (28 bytes) to pixel records (10 bytes), each number to
-the code whose number is nearest. Refuses by
-    1        the input is not a whole number of records
-    3, 4, 5  the curve, width or EI is not known
-    7        a scene number is outside -2^40 to 2^40
-";
-
-const VERIFY: &str = "\
-ropeinstant verify IN
-
-Converts pixel records (10 bytes) to ACES and back, and compares every byte. It
-writes no file, and says on standard output how many records came back the
-same. Refuses as to-aces does.
-";
-
-const INPUT: &str = "\
-IN is a file of any size, or '-' for standard input. A refusal names the first
-refused record and its value. An input from a pipe is then still read to its
-end, since a length that is not a whole number of records is refused before
-any record is.
-";
-
-const OUTPUT: &str = "\
-OUT appears whole or not at all: a new file beside it (.OUT.ropeinstant-...) is
-written, flushed to disk and then renamed to OUT. A refusal, a full disk or an
-unreadable input leaves OUT as it was. So does a kill; the next run to the same
-OUT removes the file that the killed one left. OUT is a regular file, or a new
-name in a folder that is there; a link to a file is followed. OUT is not IN. It
-is not '-' and not a device, since through a pipe the promise could not be kept.
-";
-
-fn options() -> String {
+/// What stands below the general help.
+pub fn general() -> String {
     format!(
-        "\
-    --threads N       threads, 1 to {}; without it, one for each core
-    --chunk RECORDS   records that a thread takes at once, 1 to {};
-                      without it, {}
-    --                what follows is a name, even if it begins with '-'
-
-Results are the same for any threads and chunk. They bound the memory, at about
-48 bytes for each record of a chunk, for each thread.
-
-Exit status: 0 done, 1 refused, 2 wrong usage, 3 reading or writing failed.
-",
-        MOST_THREADS, MOST_CHUNK, CHUNK
+        "{}\n{}\n{}\n{}\n{}",
+        file(),
+        curves(),
+        refusals(),
+        "'ropeinstant SUBCOMMAND --help' says what it reads, writes and refuses.\n",
+        STATUS
     )
 }
 
+/// How a file is laid out.
+fn file() -> String {
+    let mut text = "\
+A file is records of one size with no header; numbers are little endian. Each
+record begins with its setting, 4 bytes: curve (1), width in bits (1), EI (2).
+Three numbers follow, for red, green and blue:
+"
+    .to_string();
+    for kind in KINDS {
+        let sign = if kind.signed { "signed numbers" } else { "codes" };
+        text += &format!(
+            "    {:5} {} bytes, each number {}; {:15} (a name ends in {})\n",
+            kind.name,
+            kind.size(),
+            kind.bytes,
+            sign,
+            kind.ending
+        );
+    }
+    text += "\
+Signed numbers are in units: one unit is 2^-24, the least positive half float.
+Records of several settings may share a file. An ACES file is this project's own
+master in whole numbers, and no OpenEXR file.
+";
+    text
+}
+
+/// The table of curves, widths and EI values.
+fn curves() -> String {
+    let mut text = "Curve  Widths      EI\n".to_string();
+    for curve in &CURVES {
+        let widths: Vec<String> = curve.widths.iter().map(|width| width.byte.to_string()).collect();
+        let eis: Vec<String> = curve.eis.iter().map(u16::to_string).collect();
+        text += &format!("{:<6} {:<11} {}\n", curve.byte, widths.join(", "), eis.join(", "));
+    }
+    CURVES.iter().for_each(|curve| text += &format!("Curve {} is {}.\n", curve.byte, curve.name));
+    text + "Any other EI is refused, those above 1600 among them.\n"
+}
+
+fn refusals() -> String {
+    let mut text = "Refusals, in the order in which they are tried for a record:\n".to_string();
+    REFUSALS.iter().for_each(|refusal| text += &format!("    {:<3} {}\n", refusal.number, refusal.when));
+    text
+}
+
+/// What stands below the help of a conversion.
+pub fn of_conversion(conversion: &Conversion) -> String {
+    let mut text = format!(
+        "IN holds {} records of {} bytes, OUT {} records of {} bytes. Refused by\n",
+        conversion.from.name,
+        conversion.from.size(),
+        conversion.to.name,
+        conversion.to.size()
+    );
+    for refusal in REFUSALS.iter().filter(|refusal| conversion.refusals.contains(&refusal.number)) {
+        text += &format!("    {:<3} {}\n", refusal.number, refusal.when);
+    }
+    format!("{}\n{}\n{}\n{}\n{}\n{}", text, INPUT, OUTPUT, REPLACED, MANIFEST, STATUS)
+}
+
+/// What stands below the help of a subcommand that writes no file.
+pub fn of_looking(name: &str) -> String {
+    let about = match name {
+        "verify" => VERIFY_MORE,
+        "check" => CHECK_MORE,
+        _ => INSPECT_MORE,
+    };
+    format!("{}\n{}\n{}", about, INPUT, STATUS)
+}
+
+const VERIFY_MORE: &str = "\
+It writes no file. Of several files each is verified, and the sum said: status 1
+if any is refused. Two names of which the second is that of a master (by its
+manifest, by its ending .aces, or since its records can be no pixels) hold the
+first to the second: that the way back gives these pixels from this master.
+--pair says so where the names do not. A file is held to its manifest.
+";
+
+const CHECK_MORE: &str = "\
+It writes no file. Of several files each is checked, and the sum said: status 1
+if any is refused. A file is held to its manifest where there is one, which
+alone can tell a flipped bit that gives another pixel's numbers.
+";
+
+const INSPECT_MORE: &str = "\
+The kind is the one of --kind, of the manifest or of the name's ending (.pixels,
+.scene, .aces), else each that the length and the settings of the records allow;
+scene and ACES records look alike. It shows the settings with their counts, the
+range of each channel, and the first refusal: status 1 if there is one.
+";
+
+const INPUT: &str = "\
+IN is a file of any size, or '-' for standard input. A message begins with its
+name. A refusal names the first refused record and its value. On a pipe it is
+said at once, and the verdict comes at the input's end, since a length that is
+not a whole number of records is refused before any record is. A pipe that gives
+no byte at all is a failure, unless --allow-empty is said; an empty file is an
+input of 0 records. A file that is written to while it is read is a failure.
+";
+
+const OUTPUT: &str = "\
+OUT appears whole or not at all: a new file beside it (.OUT.ropeinstant-0 and so
+on) is written, flushed to disk and then renamed to OUT. Room for it is asked
+for at the start. A refusal, a full disk, an unreadable input or a signal leaves
+OUT as it was, and no new file. So does a kill, but for the new file, which the
+next run to the same OUT removes. OUT is a regular file, or a new name in a
+folder that is there; a link to a file is followed. OUT is not IN, '-' or a
+device.
+";
+
+const REPLACED: &str = "\
+A file that is replaced keeps its mode, and its owner and group where the system
+lets them be given; otherwise a word says so. Extended attributes and access
+lists are dropped, since they may speak of the old content. Other hard links of
+the old file keep the old content.
+";
+
+const MANIFEST: &str = "\
+Where IN.manifest is there, IN is held to it: its kind, records and SHA-256. A
+manifest that OUT has is written anew with it.
+";
+
 #[cfg(test)]
 mod tests {
-    use super::*;
-    use crate::args::SUBCOMMANDS;
+    use crate::args::{command, parse, Request};
+    use std::ffi::OsString;
+
+    fn help(name: &str) -> String {
+        let words = ["ropeinstant", "help", name].iter().filter(|word| !word.is_empty()).map(OsString::from).collect();
+        match parse(words) {
+            Ok(Request::Say(text)) => text,
+            _ => panic!("no help of {}", name),
+        }
+    }
 
     #[test]
     fn every_line_fits_a_terminal() {
-        let texts = SUBCOMMANDS.iter().map(|name| text(Some(name))).chain([text(None)]);
-        assert!(texts.flat_map(|text| text.lines().map(str::len).collect::<Vec<_>>()).all(|length| length <= 80));
+        let names: Vec<String> = command().get_subcommands().map(|sub| sub.get_name().to_string()).chain([String::new()]).collect();
+        for name in names {
+            for line in help(&name).lines() {
+                assert!(line.chars().count() <= 80, "{}: {}", name, line);
+            }
+        }
+    }
+
+    #[test]
+    fn the_tables_are_there() {
+        let text = help("");
+        assert!(text.contains("3      10, 12, 16  160, 200, 250, 320, 400, 500, 640, 800, 1000, 1280, 1600"));
+        assert!(text.contains("4      12, 16      0\n") && text.contains("one unit is 2^-24") && text.contains("    10  no pixel"));
     }
 }

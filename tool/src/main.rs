@@ -2,58 +2,89 @@
 #![deny(unsafe_code)]
 
 mod args;
-mod commands;
 mod conversion;
+mod convert;
+mod demo;
 mod failure;
 mod help;
 mod input;
+mod inspect;
+mod kinds;
 #[allow(unsafe_code)]
 mod library;
+mod man;
+mod manifest;
+mod names;
 mod output;
 mod partial;
 mod pipeline;
 mod progress;
+mod reading;
+mod refusals;
+mod report;
+mod session;
+mod settings;
+mod signals;
+mod summary;
+mod sums;
+mod system;
 mod target;
-mod words;
+mod verify;
 
-use args::{parse, Request};
-use commands::{convert, verify, Split};
-use conversion::{Conversion, FROM_SCENE, TO_ACES, TO_CAMERA, TO_SCENE};
-use failure::Failure;
-use std::io::{stderr, stdout, Write};
-use std::path::PathBuf;
+use args::{parse, Job, Request};
+use failure::{Cause, Failure};
+use inspect::is_master;
+use report::{complain, each, say, End, FAILED};
+use session::Session;
+use signals::Signals;
+use std::panic::catch_unwind;
 use std::process::ExitCode;
 
+/// A fault of the program itself, of which Rust has said where, ends as a failure too, so that no status is outside 0 to 3.
 fn main() -> ExitCode {
-    match parse(std::env::args_os().skip(1)).and_then(perform) {
-        Ok(()) => ExitCode::SUCCESS,
-        Err(failure) => {
-            let _ = writeln!(stderr(), "{}", failure);
-            ExitCode::from(failure.status())
+    match catch_unwind(ending).unwrap_or(End::Status(FAILED)) {
+        End::Status(status) => ExitCode::from(status),
+        End::Signal(signal) => {
+            signals::end_by(signal);
+            ExitCode::from(FAILED)
         }
     }
 }
 
-fn perform(request: Request) -> Result<(), Failure> {
-    match request {
-        Request::Help(subcommand) => say(&help::text(subcommand)),
-        Request::Version => say(concat!("ropeinstant ", env!("CARGO_PKG_VERSION"), "\n")),
-        Request::Run { name: "verify", files, split } => say(&format!("{} records come back the same\n", verify(&files[0], &split)?)),
-        Request::Run { name, files, split } => convert_files(name, &files, &split),
+fn ending() -> End {
+    let answer = parse(std::env::args_os().collect()).and_then(|request| match request {
+        Request::Say(text) => say(&text).map(|()| End::Status(0)).map_err(|failure| (String::new(), failure)),
+        Request::Do(job, options) => {
+            let name = job.name();
+            let signals =
+                Signals::new().map_err(|error| (name.to_string(), Cause::files("cannot wait for signals", &error).of("ropeinstant")));
+            perform(&job, &Session { options, signals: signals? }).map_err(|failure| (name.to_string(), failure))
+        }
+    });
+    answer.unwrap_or_else(|(command, failure)| {
+        complain(&command, &failure);
+        match failure.cause {
+            Cause::Interrupted(signal) => End::Signal(signal),
+            _ => End::Status(failure.status()),
+        }
+    })
+}
+
+fn perform(job: &Job, session: &Session) -> Result<End, Failure> {
+    let name = job.name();
+    match job {
+        Job::Convert(conversion, from, to) => {
+            each(session, name, std::slice::from_ref(from), |from| convert::convert(session, conversion, from, to))
+        }
+        Job::Verify(files) => match &files[..] {
+            [pixels, master] if is_master(session, master)? => {
+                each(session, name, std::slice::from_ref(pixels), |pixels| verify::verify_pair(session, pixels, master))
+            }
+            _ if session.options.pair => Err(Failure::usage("--pair needs two names, pixels and their master")),
+            files => each(session, name, files, |file| verify::verify(session, file)),
+        },
+        Job::Check(files) => each(session, name, files, |file| verify::check(session, file)),
+        Job::Inspect(files) => each(session, name, files, |file| inspect::inspect(session, file)),
+        Job::Demo => demo::demo(session).map(|()| End::Status(0)),
     }
-}
-
-fn convert_files(name: &str, files: &[PathBuf], split: &Split) -> Result<(), Failure> {
-    let conversion: &Conversion = match name {
-        "to-aces" => &TO_ACES,
-        "to-camera" => &TO_CAMERA,
-        "to-scene" => &TO_SCENE,
-        _ => &FROM_SCENE,
-    };
-    convert(conversion, name, &files[0], &files[1], split)
-}
-
-fn say(text: &str) -> Result<(), Failure> {
-    let written = stdout().write_all(text.as_bytes()).and_then(|()| stdout().flush());
-    written.map_err(|error| Failure::files("cannot write to standard output", &error))
 }

@@ -1,57 +1,88 @@
-//! The name of the new file beside an output, and the removal of those that killed runs left.
+//! The new file beside an output: its name, its lock, and the removal of those that killed runs left.
 //!
-//! The name is `.OUT.ropeinstant-PID-TIME`. A run that lives holds its file open, which /proc shows; so a file that its process does not
-//! hold is litter.
+//! A run takes the first free of a few names, `.OUT.ropeinstant-0`, `-1` and so on, and holds a lock on the file while it lives. So a file with
+//! such a name that can be locked is litter, whoever wrote it and on whichever machine; and no folder is ever listed. Whoever has locked
+//! a file looks whether the name still stands for it, since its owner may have given it the output's name meanwhile.
+use crate::system::{lock, open_to_lock};
+use sha2::{Digest, Sha256};
 use std::ffi::{OsStr, OsString};
-use std::fs::{self, Metadata};
-use std::io::ErrorKind;
-use std::os::unix::ffi::OsStrExt;
+use std::fs::{self, File, Metadata, OpenOptions};
+use std::io::{self, ErrorKind};
+use std::os::unix::ffi::{OsStrExt, OsStringExt};
 use std::os::unix::fs::MetadataExt;
 use std::path::{Path, PathBuf};
-use std::process;
-use std::time::{SystemTime, UNIX_EPOCH};
 
-pub fn name(folder: &Path, output: &OsStr) -> PathBuf {
-    let time = SystemTime::now().duration_since(UNIX_EPOCH).map_or(0, |since| since.as_nanos());
-    let mut name = prefix(output);
-    name.push(format!("{}-{}", process::id(), time));
-    folder.join(name)
-}
+/// Runs to one output at once.
+pub const MOST: usize = 32;
+/// A longer name of an output stands cut in that of the new file, with a sum over the whole, since names have at most 255 bytes.
+const LONGEST: usize = 200;
+const KEPT: usize = 160;
 
-/// Removes what killed runs left beside this output. What cannot be removed stays, and hinders nothing.
-pub fn clear(folder: &Path, output: &OsStr) {
-    let prefix = prefix(output);
-    for entry in fs::read_dir(folder).into_iter().flatten().flatten() {
-        let name = entry.file_name();
-        if let (Some(pid), Ok(about)) = (pid_of(&name, &prefix), entry.metadata()) {
-            if !held(pid, &about) {
-                let _ = fs::remove_file(entry.path());
-            }
+/// Makes a new file for an output, and locks it. What killed runs left for this output is removed.
+pub fn create(folder: &Path, output: &OsStr) -> io::Result<(PathBuf, File)> {
+    for path in clear(folder, output) {
+        if let Some(file) = made(&path)? {
+            return Ok((path, file));
         }
     }
+    Err(io::Error::new(ErrorKind::Other, format!("{} other runs are writing it", MOST)))
 }
 
-fn prefix(output: &OsStr) -> OsString {
-    let mut prefix = OsString::from(".");
-    prefix.push(output);
-    prefix.push(".ropeinstant-");
-    prefix
+/// Removes what killed runs left for an output: the names of new files that are free.
+pub fn clear(folder: &Path, output: &OsStr) -> Vec<PathBuf> {
+    (0..MOST).map(|k| folder.join(name(output, k))).filter(|path| cleared(path)).collect()
 }
 
-/// The process that made a new file, by the file's name; none if this is no such name.
-fn pid_of(name: &OsStr, prefix: &OsStr) -> Option<u32> {
-    let rest = name.as_bytes().strip_prefix(prefix.as_bytes())?;
-    let (pid, time) = std::str::from_utf8(rest).ok()?.split_once('-')?;
-    time.parse::<u128>().ok()?;
-    pid.parse().ok()
-}
-
-/// Whether a process has a file open; a process that may not be looked at is taken to have it.
-fn held(pid: u32, file: &Metadata) -> bool {
-    match fs::read_dir(format!("/proc/{}/fd", pid)) {
-        Ok(open) => open.flatten().any(|link| fs::metadata(link.path()).map_or(false, |about| same(&about, file))),
-        Err(error) => error.kind() != ErrorKind::NotFound,
+fn name(output: &OsStr, k: usize) -> OsString {
+    let bytes = output.as_bytes();
+    let mut name = b".".to_vec();
+    if bytes.len() <= LONGEST {
+        name.extend(bytes);
+    } else {
+        let kept = bytes[..KEPT].iter().rposition(|byte| byte & 0xc0 != 0x80).unwrap_or(0);
+        name.extend(&bytes[..kept]);
+        name.extend(format!("~{:x}", Sha256::digest(bytes))[..17].bytes());
     }
+    name.extend(format!(".ropeinstant-{}", k).bytes());
+    OsString::from_vec(name)
+}
+
+/// Whether a name is free, after removing a file there that no run holds.
+fn cleared(path: &Path) -> bool {
+    let about = match fs::symlink_metadata(path) {
+        Ok(about) => about,
+        Err(_) => return true,
+    };
+    about.is_file() && litter(path).unwrap_or(false)
+}
+
+/// Removes a file unless a run holds it: whether it did.
+fn litter(path: &Path) -> io::Result<bool> {
+    let file = open_to_lock(path)?;
+    let locked = lock(&file)?;
+    if locked && is_at(&file, path) {
+        fs::remove_file(path)?;
+    }
+    Ok(locked)
+}
+
+/// Makes and locks a new file; none if another run was before.
+fn made(path: &Path) -> io::Result<Option<File>> {
+    let file = match OpenOptions::new().read(true).write(true).create_new(true).open(path) {
+        Ok(file) => file,
+        Err(error) if error.kind() == ErrorKind::AlreadyExists => return Ok(None),
+        Err(error) => return Err(error),
+    };
+    match lock(&file) {
+        Ok(locked) => Ok(Some(file).filter(|file| locked && is_at(file, path))),
+        // A file system without locks: nothing there is ever taken for litter.
+        Err(_) => Ok(Some(file)),
+    }
+}
+
+/// Whether a name stands for this file.
+fn is_at(file: &File, path: &Path) -> bool {
+    matches!((file.metadata(), fs::symlink_metadata(path)), (Ok(a), Ok(b)) if same(&a, &b))
 }
 
 /// Whether two descriptions are of one file.
@@ -62,36 +93,42 @@ pub fn same(a: &Metadata, b: &Metadata) -> bool {
 #[cfg(test)]
 mod tests {
     use super::*;
-    use std::fs::File;
 
     fn folder(name: &str) -> PathBuf {
-        let folder = std::env::temp_dir().join(format!("ropeinstant-{}-{}", name, process::id()));
+        let folder = std::env::temp_dir().join(format!("ropeinstant-{}-{}", name, std::process::id()));
         fs::create_dir_all(&folder).unwrap();
         fs::canonicalize(folder).unwrap()
     }
 
     #[test]
-    fn names_are_read_back() {
-        let output = OsStr::new("a.b-c");
-        let made = name(Path::new("/"), output);
-        assert_eq!(pid_of(made.file_name().unwrap(), &prefix(output)), Some(process::id()));
-        assert_eq!(pid_of(OsStr::new(".a.b-c.ropeinstant-x-1"), &prefix(output)), None);
-        assert_eq!(pid_of(OsStr::new("a.b-c"), &prefix(output)), None);
+    fn names_fit_and_differ() {
+        assert_eq!(name(OsStr::new("a.b"), 3), ".a.b.ropeinstant-3");
+        let (long, other) = ("ä".repeat(127), "ä".repeat(126) + "o");
+        let made = name(OsStr::new(&long), 31);
+        assert!(made.len() <= 255 && made.to_str().is_some() && made != name(OsStr::new(&other), 31));
     }
 
     #[test]
     fn litter_is_cleared_and_held_files_are_kept() {
         let folder = folder("litter");
         let output = OsStr::new("out");
-        let (dead, other) = (folder.join(".out.ropeinstant-4194305-1"), folder.join(".other.ropeinstant-4194305-1"));
-        let held = name(&folder, output);
-        let open = File::create(&held).unwrap();
+        let (held, open) = create(&folder, output).unwrap();
+        assert_eq!(held, folder.join(".out.ropeinstant-0"));
+        let (dead, other) = (folder.join(".out.ropeinstant-7"), folder.join(".other.ropeinstant-0"));
         [&dead, &other].iter().for_each(|path| drop(File::create(path).unwrap()));
-        clear(&folder, output);
-        assert!(!dead.exists() && other.exists() && held.exists());
+        let (second, _more) = create(&folder, output).unwrap();
+        assert!(!dead.exists() && other.exists() && held.exists() && second == folder.join(".out.ropeinstant-1"));
         drop(open);
-        clear(&folder, output);
-        assert!(!held.exists());
+        assert_eq!(create(&folder, output).unwrap().0, held);
+        fs::remove_dir_all(&folder).unwrap();
+    }
+
+    #[test]
+    fn a_file_that_was_renamed_meanwhile_is_left_alone() {
+        let folder = folder("renamed");
+        let (path, _file) = create(&folder, OsStr::new("out")).unwrap();
+        fs::rename(&path, folder.join("out")).unwrap();
+        assert!(!is_at(&File::open(folder.join("out")).unwrap(), &path));
         fs::remove_dir_all(&folder).unwrap();
     }
 }

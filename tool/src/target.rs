@@ -1,30 +1,48 @@
 //! What the name OUT stands for: a regular file that may be replaced, or a new one in a folder that is there; and not the input.
-use crate::failure::Failure;
+use crate::failure::{Cause, Failure};
 use crate::input::Input;
+use crate::names::{is_standard_input, shown};
 use std::ffi::OsString;
-use std::fs::{self, Metadata, OpenOptions, Permissions};
+use std::fs::{self, Metadata, OpenOptions};
 use std::io::{self, ErrorKind};
 use std::os::unix::ffi::OsStrExt;
 use std::path::{Path, PathBuf};
 
 pub struct Target {
-    /// As the user named it.
-    pub said: String,
+    /// As messages show it.
+    pub shown: String,
     /// Its folder and its name there, with no links.
     pub folder: PathBuf,
     pub name: OsString,
-    /// Those of the file that is replaced.
-    pub permissions: Option<Permissions>,
+    /// The file that is replaced.
+    pub old: Option<Metadata>,
 }
 
 impl Target {
     pub fn of(path: &Path, input: &Input) -> Result<Target, Failure> {
+        if is_standard_input(path) {
+            let words = "OUT is a file's name, not '-': an output appears whole or not at all, which a pipe cannot promise";
+            return Err(Failure::usage(words));
+        }
         let old = existing(path, input)?;
         let real = if old.is_some() { fs::canonicalize(path) } else { Ok(path.to_path_buf()) };
-        let real = real.map_err(|error| Failure::files(&doing(path), &error))?;
+        let real = real.map_err(|error| Failure::files(path, "cannot write", &error))?;
         let name = real.file_name().ok_or_else(|| cannot(path, "it is not the name of a file"))?.to_owned();
-        let folder = real_folder(&real).map_err(|error| Failure::files(&format!("{}: its folder", doing(path)), &error))?;
-        Ok(Target { said: path.display().to_string(), folder, name, permissions: old.map(|about| about.permissions()) })
+        let folder = real_folder(&real).map_err(|error| Failure::files(path, "cannot write: its folder", &error))?;
+        Ok(Target { shown: shown(path), folder, name, old })
+    }
+
+    /// That it is not there, where no file may be replaced.
+    pub fn may_be_made(&self, clobber: bool) -> Result<(), Failure> {
+        if clobber || self.old.is_none() {
+            return Ok(());
+        }
+        Err(Cause::Files("cannot write: it is there, and --no-clobber is said".to_string()).of(&self.shown))
+    }
+
+    /// The whole path, with no links.
+    pub fn path(&self) -> PathBuf {
+        self.folder.join(&self.name)
     }
 }
 
@@ -33,7 +51,7 @@ fn existing(path: &Path, input: &Input) -> Result<Option<Metadata>, Failure> {
     let about = match fs::metadata(path) {
         Ok(about) => about,
         Err(error) if error.kind() == ErrorKind::NotFound => return absent(path),
-        Err(error) => return Err(Failure::files(&doing(path), &error)),
+        Err(error) => return Err(Failure::files(path, "cannot write", &error)),
     };
     if about.is_dir() {
         return Err(cannot(path, "it is a folder"));
@@ -42,9 +60,9 @@ fn existing(path: &Path, input: &Input) -> Result<Option<Metadata>, Failure> {
         return Err(cannot(path, "it is not a regular file, and could not appear whole or not at all"));
     }
     if input.is(&about) {
-        return Err(Failure::Usage("IN and OUT are the same file".to_string()));
+        return Err(Failure::usage(format!("IN and OUT are the same file, {}", shown(path))));
     }
-    OpenOptions::new().write(true).open(path).map_err(|error| Failure::files(&doing(path), &error))?;
+    OpenOptions::new().write(true).open(path).map_err(|error| Failure::files(path, "cannot write", &error))?;
     Ok(Some(about))
 }
 
@@ -67,10 +85,6 @@ fn real_folder(path: &Path) -> io::Result<PathBuf> {
     }
 }
 
-fn doing(path: &Path) -> String {
-    format!("cannot write {}", path.display())
-}
-
 fn cannot(path: &Path, why: &str) -> Failure {
-    Failure::Files(format!("{}: {}", doing(path), why))
+    Cause::Files(format!("cannot write: {}", why)).of(&shown(path))
 }

@@ -1,11 +1,18 @@
-// The conversions of strips for C. Each function lends its strips to a conversion of `strip` and gives the answer as a number and a place;
-// include/ropeinstant.h declares them.
+// The conversions of strips and of float pixels for C. A function over strips lends them to a conversion of `strip` and gives the answer as a
+// number and a place; one over a float pixel gives the number, and writes where it is 0. include/ropeinstant.h declares them.
 ghost use mathlib.Core.Path.{_≡_};
 ghost use Rattle.conversion.specs.Conversions.{pixelToScene, sceneToPixel, pixelToAces, acesToPixel};
 ghost use Rattle.rules.specs.Result.{stripResult};
 ghost use Rattle.strip.specs.Lent.{LentBytes};
 ghost use Rattle.ropeinstant.specs.Given.{place, Gives};
+ghost use Rattle.ropeinstant.specs.Floats.{decoding, encoding, GivesValues};
+use float::FloatDecoding;
+use float::FloatPixel;
+use from_float::FloatEncoding;
 use rules::Answer;
+use rules::Code;
+use rules::Pixel;
+use rules::Setting;
 
 // An answer as C has it: its number, and its place in a word that C lends.
 fn give(a: Answer, at: &mut u64) -> u32
@@ -58,4 +65,68 @@ pub extern "C" fn ropeinstant_aces_to_pixel(input: &[u8], output: &mut [u8], at:
     ensures { λ _. ⌜ LentBytes (now (input .entry)) (now (output .entry)) (now (output .exit)) ⌝ }
 {
     give(strip::aces_to_pixel(input, output), at)
+}
+
+// Decoding one pixel to floats.
+#[no_mangle]
+pub extern "C" fn ropeinstant_codes_to_floats(
+    curve: u8,
+    width: u8,
+    ei: u16,
+    red: u16,
+    green: u16,
+    blue: u16,
+    floats: &mut [f64; 3],
+) -> u32
+    ensures { λ n. ⌜ GivesValues (decoding curve width ei red green blue) (now (floats .entry)) n (now (floats .exit)) ⌝ }
+{
+    let s = Setting {
+        curve: curve,
+        width: width,
+        ei: ei,
+    };
+    let p = Pixel {
+        red: Code(red),
+        green: Code(green),
+        blue: Code(blue),
+    };
+    match float::decode_pixel(s, p) {
+        FloatDecoding::Pixel(f) => {
+            *floats = [f.red, f.green, f.blue];
+            0
+        }
+        FloatDecoding::Refused(number) => number as u32,
+    }
+}
+
+// Encoding one float pixel.
+#[no_mangle]
+pub extern "C" fn ropeinstant_floats_to_codes(
+    curve: u8,
+    width: u8,
+    ei: u16,
+    red: f64,
+    green: f64,
+    blue: f64,
+    codes: &mut [u16; 3],
+) -> u32
+    ensures { λ n. ⌜ GivesValues (encoding curve width ei red green blue) (now (codes .entry)) n (now (codes .exit)) ⌝ }
+{
+    let s = Setting {
+        curve: curve,
+        width: width,
+        ei: ei,
+    };
+    let f = FloatPixel {
+        red: red,
+        green: green,
+        blue: blue,
+    };
+    match from_float::encode_pixel(s, f) {
+        FloatEncoding::Pixel(p) => {
+            *codes = [p.red.0, p.green.0, p.blue.0];
+            0
+        }
+        FloatEncoding::Refused(number) => number as u32,
+    }
 }

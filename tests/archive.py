@@ -1,0 +1,198 @@
+#!/usr/bin/env python3
+"""archive.py PROGRAM [TEST..]: what an archive does with its masters by the command: check, inspect and verify them, several at once too, and hold them to their manifests."""
+import hashlib, json, random
+
+from calls import DONE, FILES, GOOD, OLD, REFUSED, USAGE, begin, begun, call, each, holds, keeps, litter, until
+from reel import reel
+from rules import NUMBERS, PIXEL
+
+ACES = NUMBERS.pack(3, 12, 800, -238167, -283566, -289928)  # of GOOD
+OTHER = PIXEL.pack(3, 12, 800, 101, 0, 0)
+BAD = PIXEL.pack(3, 10, 800, 0, 1024, 0)  # refused by 6
+
+
+def made(folder, name="shot", records=40000, options=()):
+    """a reel and its master"""
+    pixels, aces = folder / f"{name}.pixels", folder / f"{name}.aces"
+    pixels.write_bytes(b"".join(reel(random.Random(1), records)))
+    assert call("to-aces", pixels, aces, *options) == (DONE, "", "")
+    return pixels, aces
+
+
+def damaged(path, to, byte):
+    """a copy with one bit of a byte changed"""
+    data = bytearray(path.read_bytes())
+    data[byte] ^= 1
+    to.write_bytes(data)
+    return to
+
+
+def lines(got):
+    """the objects that `--json` gave"""
+    return [json.loads(line) for line in got[1].splitlines()]
+
+
+def checked(folder):
+    """check: every record comes from a pixel, or the first that does not is named; several files, summed up; nothing is written"""
+    _, aces = made(folder)
+    assert call("check", aces) == (DONE, f"{aces}: 40000 records, each from a pixel\n", "")
+    assert call("check", "-", data=aces.read_bytes())[:2] == (DONE, "standard input: 40000 records, each from a pixel\n")
+    bad = damaged(aces, folder / "bad.aces", 28 * 31000 + 4)
+    before = sorted(folder.iterdir())
+    for options in (), ("--chunk=7", "--threads=3"):
+        status, said, wrong = call("check", bad, *options)
+        assert status == REFUSED and not said and wrong.startswith(f"{bad}: refused 10: record 31000 (byte 868000): no pixel of curve "), wrong
+    status, said, wrong = call("check", aces, bad, folder / "none.aces", aces)
+    assert status == REFUSED and said.endswith("4 files: 2 held, 1 refused, 1 could not be read\n") and len(wrong.splitlines()) == 2, (said, wrong)
+    assert call("check", aces, folder / "none.aces")[0] == FILES
+    assert call("check", aces, bad, "--quiet")[:2] == (REFUSED, "")
+    first, second, total = lines(call("check", aces, bad, "--json"))
+    assert (first["file"], first["records"], first["status"]) == (str(aces), 40000, DONE)
+    assert (second["refusal"]["number"], second["refusal"]["record"], second["refusal"]["byte"], second["status"]) == (10, 31000, 868000, REFUSED)
+    assert (total["files"], total["held"], total["refused"], total["failed"], total["status"]) == (2, 1, 1, 0, REFUSED)
+    assert sorted(folder.iterdir()) == before
+
+
+def held_to_master(folder):
+    """verify PIXELS ACES: that this master gives these pixels; and several pixel files, summed up"""
+    pixels, aces = made(folder)
+    assert call("verify", pixels, aces) == (DONE, f"{pixels}: 40000 records are what {aces} gives\n", "")
+    plain, reel_of = folder / "master", folder / "reel"
+    plain.write_bytes(aces.read_bytes())
+    reel_of.write_bytes(pixels.read_bytes())
+    for words in ((reel_of, plain), (reel_of, plain, "--pair"), ("-", aces)):  # the records of a master can be no pixels
+        assert call("verify", *words, "--chunk=100", data=pixels.read_bytes())[0] == DONE, words
+    wrong_pixels = damaged(pixels, folder / "wrong.pixels", 10 * 25000 + 4)
+    status, said, wrong = call("verify", wrong_pixels, aces, "--threads=4", "--chunk=50")
+    assert status == REFUSED and not said and wrong == f"{wrong_pixels}: differs: record 25000 (byte 250000) is not what {aces} gives there\n", wrong
+    wrong_aces = damaged(aces, folder / "wrong.aces", 28 * 25000 + 4)
+    holds(call("verify", pixels, wrong_aces), REFUSED, f"{wrong_aces}: refused 10: record 25000 (byte 700000)")
+    short, long = folder / "short.pixels", folder / "long.pixels"
+    short.write_bytes(pixels.read_bytes()[:-10])
+    holds(call("verify", short, aces), REFUSED, f"{short}: differs: it has 39999 records, and {aces} has 40000")
+    long.write_bytes(pixels.read_bytes() + GOOD)
+    holds(call("verify", long, aces), REFUSED, f"{long}: differs: record 40000 (byte 400000) is not what {aces} gives there")
+    for words in ((pixels, reel_of), (pixels, pixels, pixels)):
+        status, said, wrong = call("verify", *words)
+        assert status == DONE and said.count(" 40000 records come back the same\n") == len(words) and f"{len(words)} files: {len(words)} held" in said, said
+    (folder / "bad.pixels").write_bytes(BAD)
+    status, said, wrong = call("verify", folder / "bad.pixels", pixels)
+    assert status == REFUSED and "2 files: 1 held, 1 refused, 0 could not be read\n" in said and "bad.pixels: refused 6: record 0" in wrong, (said, wrong)
+
+
+def manifests(folder):
+    """a manifest says kind, records, settings and sums; what does not hold to it is refused; one that is there is written anew"""
+    pixels, aces = made(folder, options=("--manifest",))
+    listed = folder / "shot.aces.manifest"
+    value = json.loads(listed.read_text())
+    assert (value["kind"], value["records"], value["bytes"], value["record_bytes"]) == ("ACES", 40000, 1120000, 28)
+    assert value["sha256"] == hashlib.sha256(aces.read_bytes()).hexdigest()
+    assert value["from"] == {"kind": "pixel", "bytes": 400000, "sha256": hashlib.sha256(pixels.read_bytes()).hexdigest()}
+    counts = {}
+    for record in PIXEL.iter_unpack(pixels.read_bytes()):
+        counts[record[:3]] = counts.get(record[:3], 0) + 1
+    assert {(s["curve"], s["width"], s["ei"]): s["records"] for s in value["settings"]} == counts
+    for words in (("check", aces), ("verify", pixels, aces)):
+        status, said, wrong = call(*words)
+        assert status == DONE and said.endswith(", and it is as its manifest says\n") and not wrong, (said, wrong)
+    back = folder / "back.pixels"
+    assert call("to-camera", aces, back, "--manifest") == (DONE, "", "") and back.read_bytes() == pixels.read_bytes()
+    assert json.loads((folder / "back.pixels.manifest").read_text())["from"]["sha256"] == value["sha256"]
+
+    # ACES records as scene records would give wrong codes: by its manifest, and by its name where it has none
+    keeps(folder / "out", "from-scene", aces, folder / "out", status=REFUSED, saying=f"{aces}: differs: {listed} says that it holds ACES records")
+    keeps(folder / "out", "from-scene", aces, folder / "out", "--no-manifest", status=USAGE, saying=f"{aces} is named as ACES records")
+    assert call("from-scene", aces, folder / "out", "--no-manifest", "--kind", "scene")[0] == DONE
+
+    # a record that gives another pixel: only the sum tells
+    data = aces.read_bytes()
+    another = folder / "another"
+    another.write_bytes(OTHER)
+    assert call("to-aces", another, folder / "record") == (DONE, "", "")
+    aces.write_bytes(data[:28] + (folder / "record").read_bytes() + data[56:])
+    assert call("check", aces, "--no-manifest")[0] == DONE
+    for words in (("check", aces), ("verify", pixels, aces, "--pair")):
+        assert call(*words)[0] == REFUSED, words
+    holds(call("check", aces), REFUSED, f"{aces}: differs: {listed} says SHA-256 {value['sha256']}, and it has ")
+    keeps(back, "to-camera", aces, back, status=REFUSED, saying="differs: ")
+    aces.write_bytes(data[:-28])
+    holds(call("check", aces), REFUSED, "says 40000 records, and it has 39999")
+    aces.write_bytes(data)
+    holds(call("verify", back, aces), REFUSED, "")
+    back.write_bytes(pixels.read_bytes())
+    (folder / "back.pixels.manifest").unlink()
+    assert call("verify", back, aces)[0] == DONE
+
+    # a manifest that is there stays true; one that cannot be read is a failure
+    pixels.write_bytes(GOOD)
+    status, _, wrong = call("to-aces", pixels, aces)
+    assert status == DONE and wrong == f"{listed}: it was there, and is written anew\n", wrong
+    assert json.loads(listed.read_text())["records"] == 1 and call("check", aces)[0] == DONE
+    listed.write_text("{}")
+    for name in ("check", aces), ("to-camera", aces, folder / "out"):
+        holds(call(*name), FILES, f"{listed}: it is not a manifest")
+    assert not litter(folder)
+
+
+def unreplaced(folder):
+    """--no-clobber: no file is replaced, not even one that appears while the run is at work"""
+    source, out = folder / "in", folder / "out"
+    source.write_bytes(GOOD * 300000)
+    keeps(out, "to-aces", source, out, "--no-clobber", status=FILES, saying=f"{out}: cannot write: it is there")
+    out.unlink()
+    (folder / "out.manifest").write_bytes(OLD)
+    holds(call("to-aces", source, out, "--no-clobber", "--manifest"), FILES, "out.manifest: cannot write: it is there")
+    (folder / "out.manifest").unlink()
+    run = begin("to-aces", source, out, "--no-clobber", "--chunk=1", "--threads=1")
+    until(lambda: begun(folder))
+    out.write_bytes(OLD)
+    said = run.communicate()[1].decode()
+    assert run.returncode == FILES and said == f"{out}: cannot write: File exists\n" and out.read_bytes() == OLD and not litter(folder), said
+    out.unlink()
+    assert call("to-aces", source, out, "--no-clobber", "--json", "--manifest")[0] == DONE and out.stat().st_size == 8400000
+
+
+def inspected(folder):
+    """inspect: the kind by option, manifest, name or records; settings with counts, ranges and the first refusal"""
+    pixels, aces = made(folder)
+    counts, ranges = {}, [[], [], []]
+    for curve, width, ei, *codes in PIXEL.iter_unpack(pixels.read_bytes()):
+        counts[curve, width, ei] = counts.get((curve, width, ei), 0) + 1
+        for seen, code in zip(ranges, codes):
+            seen.append(code)
+    plain = folder / "plain"
+
+    def seen(*words):
+        got = call("inspect", *words, "--json")
+        value = lines(got)[0]
+        assert value["status"] == got[0]
+        return value["known_by"], {view["kind"]: view for view in value["as"]}
+
+    for name, by in ((pixels, "name"), (plain, "records")):
+        plain.write_bytes(pixels.read_bytes())
+        known, views = seen(name)
+        assert known == by and list(views) == ["pixel"], views
+        view = views["pixel"]
+        assert (view["bytes"], view["records"], view["refusal"]) == (400000, 40000, None)
+        assert {(s["curve"], s["width"], s["ei"]): s["records"] for s in view["settings"]} == counts
+        assert [view["ranges"][channel] for channel in ("red", "green", "blue")] == [[min(r), max(r)] for r in ranges]
+    plain.write_bytes(aces.read_bytes())
+    known, views = seen(plain)
+    assert (known, sorted(views)) == ("records", ["ACES", "scene"]) and not any(view["refusal"] for view in views.values())
+    assert seen(plain, "--kind", "aces")[0] == "option"
+    plain.write_bytes(GOOD * 3 + BAD + b"\x09" + GOOD)
+    known, views = seen(plain, "--kind", "pixel")
+    assert views["pixel"]["refusal"]["number"] == 1 and views["pixel"]["records"] == 5
+    plain.write_bytes(GOOD * 3 + BAD + bytes(10) + GOOD)
+    status, said, wrong = call("inspect", plain, "--kind", "pixel")
+    assert status == REFUSED and "refused 6: record 3 (byte 30): green code 1024 is above 1023" in said and "no setting that there is       1 records" in said, said
+    status, said, wrong = call("inspect", plain)
+    assert status == REFUSED and "refused as each kind" in said, said
+    holds(call("inspect", "-", data=GOOD), USAGE, "--kind")
+    assert call("inspect", "-", "--kind=pixel", data=GOOD)[0] == DONE
+    assert call("to-aces", pixels, folder / "master", "--manifest")[0] == DONE and seen(folder / "master")[0] == "manifest"
+    assert call("inspect", pixels, aces)[1].endswith("2 files: 2 held, 0 refused, 0 could not be read\n")
+
+
+if __name__ == "__main__":
+    each((checked, held_to_master, manifests, unreplaced, inspected))

@@ -1,0 +1,99 @@
+/* How much stack a call takes: each conversion runs on a stack that was painted before, over strips of the lengths where another way through
+ * the library begins. Prints the most of each; fails where one takes more than the header promises.
+ *
+ *   gcc -Iinclude tests/stack.c target/staticlib/libropeinstant.a -lpthread -o target/stack && target/stack */
+#define _GNU_SOURCE
+#include <pthread.h>
+#include <stdio.h>
+#include <stdlib.h>
+#include <string.h>
+
+#include "ropeinstant.h"
+
+enum { PROMISED = ROPEINSTANT_STACK, WHOLE = 1 << 20, MOST = 5000, PAINT = 0xa5 };
+
+typedef uint32_t function(const uint8_t *, size_t, uint8_t *, size_t, uint64_t *);
+
+static uint8_t *in, *out;
+
+struct job {
+    function *call;
+    size_t in_len, out_len;
+    void (*other)(void);
+};
+
+static void float_pixels(void)
+{
+    double floats[3];
+    uint16_t codes[3];
+    if (ropeinstant_codes_to_floats(3, 16, 800, 100, 40000, 65535, floats) == 0)
+        ropeinstant_floats_to_codes(3, 16, 800, floats[0], floats[1], floats[2], codes);
+}
+
+static void *run(void *of)
+{
+    struct job *job = of;
+    uint64_t at;
+    if (job->call)
+        job->call(in, job->in_len, out, job->out_len, &at);
+    if (job->other)
+        job->other();
+    return NULL;
+}
+
+/* the bytes of stack that a thread with a job touches */
+static size_t touched(struct job job)
+{
+    pthread_attr_t attr;
+    pthread_t thread;
+    uint8_t *stack;
+    size_t low = 0;
+    if (posix_memalign((void **)&stack, 4096, WHOLE))
+        exit(1);
+    memset(stack, PAINT, WHOLE);
+    pthread_attr_init(&attr);
+    pthread_attr_setstack(&attr, stack, WHOLE);
+    if (pthread_create(&thread, &attr, run, &job) || pthread_join(thread, NULL))
+        exit(1);
+    while (low < WHOLE && stack[low] == PAINT)
+        low++;
+    free(stack);
+    return WHOLE - low;
+}
+
+int main(void)
+{
+    const uint8_t pixel[10] = {3, 12, 0x20, 0x03, 100, 0, 0, 0, 0, 0};
+    const struct {
+        const char *name;
+        function *call;
+        size_t from, to;
+        function *before;
+    } conversions[] = {
+        {"pixel to scene", ropeinstant_pixel_to_scene, 10, 28, NULL},
+        {"scene to pixel", ropeinstant_scene_to_pixel, 28, 10, ropeinstant_pixel_to_scene},
+        {"pixel to ACES", ropeinstant_pixel_to_aces, 10, 28, NULL},
+        {"ACES to pixel", ropeinstant_aces_to_pixel, 28, 10, ropeinstant_pixel_to_aces},
+    };
+    const size_t counts[] = {0, 1, 15, 16, 4096, 4097, MOST};
+    size_t none = touched((struct job){NULL, 0, 0, NULL}), greatest = 0;
+    uint8_t *pixels = malloc(MOST * 10);
+    in = malloc(MOST * 28), out = malloc(MOST * 28);
+    for (size_t k = 0; k < MOST; k++)
+        memcpy(pixels + 10 * k, pixel, 10);
+    for (size_t c = 0; c < sizeof conversions / sizeof *conversions; c++) {
+        size_t most = 0;
+        uint64_t at;
+        memcpy(in, pixels, MOST * 10);
+        if (conversions[c].before && conversions[c].before(pixels, MOST * 10, in, MOST * 28, &at) != 0)
+            return 1;
+        for (size_t k = 0; k < sizeof counts / sizeof *counts; k++) {
+            size_t used = touched((struct job){conversions[c].call, counts[k] * conversions[c].from, MOST * 28, NULL}) - none;
+            most = used > most ? used : most;
+        }
+        printf("stack: %s takes %zu bytes\n", conversions[c].name, most);
+        greatest = most > greatest ? most : greatest;
+    }
+    printf("stack: float pixels take %zu bytes\n", touched((struct job){NULL, 0, 0, float_pixels}) - none);
+    return greatest > PROMISED;
+}

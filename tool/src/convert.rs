@@ -1,0 +1,107 @@
+//! The conversions of a file into another.
+use crate::conversion::Conversion;
+use crate::failure::{Cause, Failure};
+use crate::input::Input;
+use crate::library::Refusal;
+use crate::manifest::{beside, text, Of};
+use crate::output::Output;
+use crate::partial::clear;
+use crate::pipeline::room;
+use crate::reading::Reading;
+use crate::refusals::Refused;
+use crate::report::Facts;
+use crate::session::Session;
+use crate::summary::Summary;
+use crate::sums::{sum_of, Named};
+use crate::target::Target;
+use serde_json::json;
+use std::path::Path;
+use std::sync::Mutex;
+
+/// Converts a file into another.
+pub fn convert(session: &Session, conversion: &Conversion, from: &Path, to: &Path) -> Result<Facts, Failure> {
+    let mut reading = Reading::open(from, conversion.from, conversion.name, session)?;
+    let target = Target::of(to, &reading.input)?;
+    let listed = listed(session, &target, &reading.input)?;
+    let manifest = listed.is_some();
+    if manifest {
+        reading.input.sum();
+    }
+    let whole = reading.input.length.map(|length| length / conversion.from.size() as u64 * conversion.to.size() as u64);
+    let output = Output::create(target, whole, !session.options.no_clobber)?;
+    let summary = Mutex::new(Summary::default());
+    let chunk = session.options.split.chunk;
+    let file = reading.input.name.clone();
+    let records = reading.run(|| {
+        let mut made = room(chunk * conversion.to.size())?;
+        let (output, summary, file) = (&output, &summary, &file);
+        Ok(move |part: &[u8], first: u64| {
+            let made = converted(conversion, file, part, first, &mut made)?;
+            if manifest {
+                summary.lock().unwrap().count(conversion.from, part);
+            }
+            output.write_at(made, first * conversion.to.size() as u64)
+        })
+    })?;
+    reading.progress.doing("flushing to disk");
+    output.flush()?;
+    let mut facts = json!({"out": output.shown(), "records": records});
+    let listing = if let Some(listed) = listed {
+        let (of, from) = (sum_of(&output, &session.signals)?, reading.input.summed().unwrap_or_default());
+        facts["sha256"] = of.clone().into();
+        let of = Of { kind: conversion.to, bytes: records * conversion.to.size() as u64, sha256: &of };
+        let from = Of { kind: conversion.from, bytes: reading.input.read, sha256: &from };
+        Some(listing(session, listed, &text(&of, records, &summary.into_inner().unwrap(), &from))?)
+    } else {
+        None
+    };
+    session.signals.check().map_err(|cause| cause.of(&file))?;
+    let notes = output.notes();
+    let shown = output.shown().to_string();
+    output.finish()?;
+    notes.iter().for_each(|words| session.note(&shown, words));
+    if let Some(listing) = listing {
+        facts["manifest"] = listing.shown().into();
+        listing.finish()?;
+    }
+    Ok(Facts::new(String::new(), facts))
+}
+
+/// The name of the manifest that is to be written: the one that was asked for, or that is there and would not be true of a new file.
+fn listed(session: &Session, target: &Target, input: &Input) -> Result<Option<Target>, Failure> {
+    let path = beside(&target.path());
+    if !session.options.manifest && path.symlink_metadata().is_err() {
+        clear(&target.folder, path.file_name().unwrap_or_default());
+        return Ok(None);
+    }
+    let listed = Target::of(&path, input)?;
+    listed.may_be_made(!session.options.no_clobber)?;
+    Ok(Some(listed))
+}
+
+/// A manifest, written and flushed, that has its name still to be given.
+fn listing(session: &Session, target: Target, text: &str) -> Result<Output, Failure> {
+    if target.old.is_some() && !session.options.manifest {
+        session.note(&target.shown, "it was there, and is written anew");
+    }
+    let output = Output::create(target, Some(text.len() as u64), !session.options.no_clobber)?;
+    output.write_at(text.as_bytes(), 0)?;
+    output.flush()?;
+    Ok(output)
+}
+
+/// The output strip of a part of a file, whose first record has this index in the whole.
+pub fn converted<'a>(conversion: &Conversion, file: &str, part: &[u8], first: u64, made: &'a mut [u8]) -> Result<&'a [u8], Failure> {
+    let made = &mut made[..part.len() / conversion.from.size() * conversion.to.size()];
+    match (conversion.convert)(part, made) {
+        Ok(_) => Ok(made),
+        Err(refusal) => Err(Cause::Refused(refused(&refusal, conversion, part, first)).of(file)),
+    }
+}
+
+/// The words for a refusal of a part's record.
+pub fn refused(refusal: &Refusal, conversion: &Conversion, part: &[u8], first: u64) -> Refused {
+    let size = conversion.from.size();
+    let at = refusal.record as usize * size;
+    Refused::record(conversion.from, refusal.number, first + refusal.record, &part[at..at + size])
+}

@@ -1,0 +1,132 @@
+//! The refusals: the one table of their numbers and words, and the words for a refused record. The library decides; this only reads the
+//! refused record again.
+use crate::kinds::{Kind, CHANNELS};
+use crate::settings::{listed, Setting, CURVES};
+
+const LIMIT: i64 = 1 << 40; // of a scene number to encode
+
+pub struct Refusal {
+    pub number: u32,
+    pub when: &'static str,
+    /// The words for a record that it refuses, with the value.
+    cause: fn(&Kind, &Setting, &[u8]) -> String,
+}
+
+/// 2, an output that is too short, is not here: the command makes room for every record.
+pub const REFUSALS: [Refusal; 7] = [
+    Refusal { number: 1, when: "the input is not a whole number of records", cause: |_, _, _| String::new() },
+    Refusal { number: 3, when: "the curve is not known", cause: curve },
+    Refusal { number: 4, when: "the width is not one of the curve's", cause: width },
+    Refusal { number: 5, when: "the EI is not one of the curve's", cause: ei },
+    Refusal { number: 6, when: "a code is above the top code of its width", cause: code_above_top },
+    Refusal { number: 7, when: "a scene number to encode is outside -2^40 to 2^40", cause: scene_out_of_range },
+    Refusal { number: 10, when: "no pixel of the setting has these ACES numbers", cause: no_pixel },
+];
+
+/// A refusal of an input: its number, its place and the words for it.
+#[derive(Clone, Debug, PartialEq)]
+pub struct Refused {
+    pub number: u32,
+    pub record: u64,
+    pub byte: u64,
+    pub words: String,
+}
+
+impl Refused {
+    /// Of a record, whose place in the whole input is `index`.
+    pub fn record(kind: &Kind, number: u32, index: u64, record: &[u8]) -> Refused {
+        let byte = index * kind.size() as u64;
+        let cause = REFUSALS.iter().find(|refusal| refusal.number == number).map(|refusal| refusal.cause);
+        let words = match cause {
+            Some(cause) => cause(kind, &Setting::of(record), record),
+            None => "a cause that this command does not know".to_string(),
+        };
+        Refused { number, record: index, byte, words: format!("record {} (byte {}): {}", index, byte, words) }
+    }
+
+    /// Of an input that ends within a record.
+    pub fn length(kind: &Kind, length: u64) -> Refused {
+        let (size, left) = (kind.size(), length % kind.size() as u64);
+        let byte = length - left;
+        let words = format!(
+            "the input has {} bytes, which is not a whole number of records of {} bytes: the last record (byte {}) has only {}",
+            length, size, byte, left
+        );
+        Refused { number: 1, record: 0, byte, words }
+    }
+}
+
+fn curve(_: &Kind, setting: &Setting, _: &[u8]) -> String {
+    format!("curve {} is neither {}", setting.curve, listed(CURVES.iter().map(|curve| curve.byte.into()), "nor"))
+}
+
+fn width(_: &Kind, setting: &Setting, _: &[u8]) -> String {
+    let widths = setting.curve().map_or(&[][..], |curve| curve.widths);
+    not_one_of("width", setting.width.into(), setting, widths.iter().map(|width| width.byte.into()).collect())
+}
+
+fn ei(_: &Kind, setting: &Setting, _: &[u8]) -> String {
+    let eis = setting.curve().map_or(&[][..], |curve| curve.eis);
+    not_one_of("EI", setting.ei, setting, eis.to_vec())
+}
+
+fn not_one_of(what: &str, value: u16, setting: &Setting, known: Vec<u16>) -> String {
+    let (verb, end) = if known.len() == 1 { ("is", " only") } else { ("are", "") };
+    format!("{} {} is not one of curve {}'s, which {} {}{}", what, value, setting.curve, verb, listed(known, "and"), end)
+}
+
+fn code_above_top(kind: &Kind, setting: &Setting, record: &[u8]) -> String {
+    let top = setting.width().map_or(u16::MAX, |width| width.highest).into();
+    match CHANNELS.iter().zip(kind.numbers(record)).find(|(_, code)| *code > top) {
+        Some((channel, code)) => format!("{} code {} is above {}", channel, code, top),
+        None => "a code is above its top".to_string(),
+    }
+}
+
+fn scene_out_of_range(kind: &Kind, _: &Setting, record: &[u8]) -> String {
+    match CHANNELS.iter().zip(kind.numbers(record)).find(|(_, number)| !(-LIMIT..=LIMIT).contains(number)) {
+        Some((channel, number)) => format!("{} scene number {} is outside {} to {}", channel, number, -LIMIT, LIMIT),
+        None => "a scene number is out of range".to_string(),
+    }
+}
+
+fn no_pixel(kind: &Kind, setting: &Setting, record: &[u8]) -> String {
+    let triple: Vec<String> = kind.numbers(record).iter().map(i64::to_string).collect();
+    format!("no pixel of {} has the ACES numbers {}", setting, triple.join(", "))
+}
+
+#[cfg(test)]
+mod tests {
+    use super::*;
+    use crate::conversion::CONVERSIONS;
+    use crate::kinds::PIXEL;
+
+    fn words(number: u32, index: u64, setting: (u8, u8, u16), codes: [u16; 3]) -> String {
+        let mut record = Setting { curve: setting.0, width: setting.1, ei: setting.2 }.bytes().to_vec();
+        codes.iter().for_each(|code| record.extend(code.to_le_bytes()));
+        Refused::record(&PIXEL, number, index, &record).words
+    }
+
+    #[test]
+    fn the_first_code_above_top() {
+        assert_eq!(words(6, 1234, (3, 10, 800), [1023, 1024, 2000]), "record 1234 (byte 12340): green code 1024 is above 1023");
+    }
+
+    #[test]
+    fn settings() {
+        assert_eq!(words(3, 0, (2, 12, 0), [0; 3]), "record 0 (byte 0): curve 2 is neither 3 nor 4");
+        assert!(words(4, 1, (4, 10, 0), [0; 3]).ends_with("width 10 is not one of curve 4's, which are 12 and 16"));
+        assert!(words(5, 2, (4, 12, 800), [0; 3]).ends_with("EI 800 is not one of curve 4's, which is 0 only"));
+    }
+
+    #[test]
+    fn a_byte_beyond_four_gigabytes() {
+        assert!(words(3, 1 << 32, (2, 12, 0), [0; 3]).starts_with("record 4294967296 (byte 42949672960)"));
+    }
+
+    #[test]
+    fn every_number_of_a_conversion_is_in_the_table() {
+        let known = |number: &u32| REFUSALS.iter().any(|refusal| refusal.number == *number);
+        assert!(CONVERSIONS.iter().all(|conversion| conversion.refusals.iter().all(known)));
+    }
+}

@@ -1,0 +1,106 @@
+//! The settings: the one table of the curves with their widths, codes and EI values, and a setting as a record holds it. The library judges
+//! records; this table is for words, the help and the demo.
+use std::fmt;
+
+/// A width's byte, and its codes: from the lowest to the highest by a step.
+pub struct Width {
+    pub byte: u8,
+    pub lowest: u16,
+    pub highest: u16,
+    pub step: u16,
+}
+
+pub struct Curve {
+    pub byte: u8,
+    pub name: &'static str,
+    pub widths: &'static [Width],
+    pub eis: &'static [u16],
+}
+
+/// The full range of a width in bits.
+const fn full(bits: u8) -> Width {
+    Width { byte: bits, lowest: 0, highest: ((1_u32 << bits) - 1) as u16, step: 1 }
+}
+
+pub const CURVES: [Curve; 2] = [
+    Curve {
+        byte: 3,
+        name: "LogC3 (SUP 3.x, scene exposure)",
+        widths: &[full(10), full(12), full(16)],
+        eis: &[160, 200, 250, 320, 400, 500, 640, 800, 1000, 1280, 1600],
+    },
+    Curve { byte: 4, name: "LogC4", widths: &[full(12), full(16)], eis: &[0] },
+];
+
+/// The bytes of a setting, with which every record begins.
+pub const BYTES: usize = 4;
+
+#[derive(Clone, Copy, Debug, PartialEq, Eq, PartialOrd, Ord)]
+pub struct Setting {
+    pub curve: u8,
+    pub width: u8,
+    pub ei: u16,
+}
+
+impl Setting {
+    pub fn of(record: &[u8]) -> Setting {
+        Setting { curve: record[0], width: record[1], ei: u16::from_le_bytes([record[2], record[3]]) }
+    }
+
+    pub fn bytes(&self) -> [u8; BYTES] {
+        let ei = self.ei.to_le_bytes();
+        [self.curve, self.width, ei[0], ei[1]]
+    }
+
+    pub fn curve(&self) -> Option<&'static Curve> {
+        CURVES.iter().find(|curve| curve.byte == self.curve)
+    }
+
+    pub fn width(&self) -> Option<&'static Width> {
+        self.curve()?.widths.iter().find(|width| width.byte == self.width)
+    }
+}
+
+impl fmt::Display for Setting {
+    fn fmt(&self, to: &mut fmt::Formatter) -> fmt::Result {
+        write!(to, "curve {}, width {}, EI {}", self.curve, self.width, self.ei)
+    }
+}
+
+/// Every setting, in the table's order.
+pub fn all() -> impl Iterator<Item = Setting> {
+    CURVES.iter().flat_map(|curve| {
+        let widths = curve.widths.iter();
+        widths.flat_map(move |width| curve.eis.iter().map(move |&ei| Setting { curve: curve.byte, width: width.byte, ei }))
+    })
+}
+
+/// Whether the table has a setting.
+pub fn known(setting: &Setting) -> bool {
+    setting.width().is_some() && setting.curve().map_or(false, |curve| curve.eis.contains(&setting.ei))
+}
+
+/// Numbers in words: "3", "3 and 4", "10, 12 and 16".
+pub fn listed(numbers: impl IntoIterator<Item = u16>, last: &str) -> String {
+    let words: Vec<String> = numbers.into_iter().map(|number| number.to_string()).collect();
+    match words.split_last() {
+        Some((end, rest)) if !rest.is_empty() => format!("{} {} {}", rest.join(", "), last, end),
+        _ => words.concat(),
+    }
+}
+
+#[cfg(test)]
+mod tests {
+    use super::*;
+
+    #[test]
+    fn there_are_35_and_each_reads_back() {
+        assert_eq!(all().count(), 35);
+        assert!(all().all(|setting| Setting::of(&setting.bytes()) == setting && known(&setting)));
+    }
+
+    #[test]
+    fn numbers_in_words() {
+        assert_eq!([listed([0], "and"), listed([3, 4], "nor"), listed([10, 12, 16], "and")], ["0", "3 nor 4", "10, 12 and 16"]);
+    }
+}
