@@ -347,7 +347,7 @@ def unseen(sources, texts, papers):
     for what, copy, word in damaged(sources, texts):
         if not any(word in c for c in {*complaints(sources, copy)} - before):
             yield f"tests/documents.py does not see {what}"
-    if papers and {*quoted({PROMISES: texts[PROMISES].replace('"', '"no ', 1)}, papers)} <= before:
+    if papers and {*quoted({PROMISES: re.sub(r'(?m)^(\| [^|"]*")', r'\1no ', texts[PROMISES], count=1)}, papers)} <= before:
         yield "tests/documents.py does not see a sentence that nobody wrote"
 
 
