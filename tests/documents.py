@@ -253,7 +253,7 @@ def tests(sources, block):
     """each word of the column of tests is a stored run or a test that the gate runs"""
     for word in re.split("[,;]", re.sub(r"`[^`]*`.*|\(.*\)", "", block.text)):
         word = word.strip()
-        stored = (ROOT / "crates" / word / "stdout").exists()
+        stored = any((ROOT / "crates" / name / "stdout").exists() for name in (word, f"test_{word}"))
         if word and word != "unit test" and not (word.isidentifier() and (stored or f"tests/{word}.py" in sources.gate)):
             yield f"{block.document}:{block.line}: {word} is no test of ./gate"
 

@@ -1,4 +1,4 @@
-/* The program `floats` (crates/floats) in C, over the library: standard input holds records of 29 bytes, what is asked (0 decoding, else
+/* The program `floats` (crates/test_floats) in C, over the library: standard input holds records of 29 bytes, what is asked (0 decoding, else
  * encoding), a setting, and for each channel eight bytes, a code or the bits of a float. A line is printed for each: the bits of the three
  * floats, or the three codes, or `refused` and the number. What a refused call was lent must be as it was. */
 #include <inttypes.h>

@@ -1,6 +1,6 @@
 #!/usr/bin/env python3
-"""tables.py [--check]: write the seeds of the curves' tables (crates/table/specs/Seeds.antt), the tables themselves
-(crates/table/src/values.rt) and the lines of the search's guess (crates/search/src/lines.rt), or with --check say whether the committed
+"""tables.py [--check]: write the seeds of the curves' tables (crates/curve_table/specs/Seeds.antt), the tables themselves
+(crates/curve_table/src/values.rt) and the lines of the search's guess (crates/nearest_code/src/lines.rt), or with --check say whether the committed
 files are what this prints.
 
 The numbers are the associated constants of the curves' types (crates/curves/src), which are proved to be those of the rules. A seed is a power with
@@ -143,7 +143,7 @@ def written():
         "logC3Seeds =\n    " + "\n    ∷ ".join(seeds[2:]) + "\n    ∷ []\n"
     )
     rt = "// The tables of the curves, one for each setting. Written by tools/tables.py.\n" + "".join(consts)
-    return {"crates/table/specs/Seeds.antt": antt, "crates/table/src/values.rt": rt, "crates/search/src/lines.rt": lines()}
+    return {"crates/curve_table/specs/Seeds.antt": antt, "crates/curve_table/src/values.rt": rt, "crates/nearest_code/src/lines.rt": lines()}
 
 
 def line(curve):

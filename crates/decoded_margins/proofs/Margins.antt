@@ -11,9 +11,9 @@ use lib.ListN.{length, getD, take, drop}
 use lib.Seq.{getD-take, getD-drop}
 use Rattle.whole.proofs.Tests.{both, both-left, both-right, nth, passes, every}
 use Rattle.rules.specs.Exact.{Scale}
-use Rattle.curve.specs.Decoded.{product}
-use Rattle.curve.proofs.Tests.{Source, tests, first, bias, roomTests, top-count, middle-count, low-count}
-use Rattle.curve.proofs.Near.{Room, room-by}
+use Rattle.decode.specs.Decoded.{product}
+use Rattle.decode.proofs.Tests.{Source, tests, first, bias, roomTests, top-count, middle-count, low-count}
+use Rattle.decode.proofs.Near.{Room, room-by}
 
 -- ---- lists
 

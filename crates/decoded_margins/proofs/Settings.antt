@@ -13,7 +13,7 @@ use Rattle.rules.specs.Exact.{scaleOf}
 use Rattle.curves.specs.Named.{named}
 use Rattle.curves.specs.LogC3.{rowOf}
 use Rattle.rules.proofs.Settings.{forAll, forSettings, for-valid, first, others}
-use Rattle.table.specs.Table.{logC3Table, logC4Table, tableOf}
+use Rattle.curve_table.specs.Table.{logC3Table, logC4Table, tableOf}
 use Rattle.decoded_margins.proofs.Margins.{marginTest}
 
 -- ---- a test of a list from tests of its parts

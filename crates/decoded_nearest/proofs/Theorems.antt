@@ -9,11 +9,11 @@ use Rattle.whole.proofs.Near.{near-same}
 use Rattle.rules.specs.declared.Setting.{Setting}
 use Rattle.rules.specs.Setting.{topOf, curveOf, Valid}
 use Rattle.rules.specs.Exact.{scaleOf}
-use Rattle.table.specs.Table.{tableOf}
-use Rattle.curve.specs.Decoded.{decoded}
-use Rattle.curve.proofs.Distance.{numbers-near}
-use Rattle.curve.proofs.Right.{within}
-use Rattle.curve.proofs.Settings.{sourceOf, passed}
+use Rattle.curve_table.specs.Table.{tableOf}
+use Rattle.decode.specs.Decoded.{decoded}
+use Rattle.decode.proofs.Distance.{numbers-near}
+use Rattle.decode.proofs.Right.{within}
+use Rattle.decode.proofs.Settings.{sourceOf, passed}
 use Rattle.decoded_margins.proofs.Margins.{room-for-half}
 use Rattle.decoded_margins.proofs.Settings.{margins}
 use Rattle.decoded_nearest.specs.Nearest.{half, Nearest, NearestNumbers}

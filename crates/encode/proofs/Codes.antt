@@ -18,13 +18,13 @@ use Rattle.rules.specs.Exact.{scaleOf}
 use Rattle.rules.specs.Encoding.{sceneCheck}
 use Rattle.rules.proofs.Settings.{passed-only, first, others}
 use Rattle.rules.proofs.Closest.{closest-is-nearest, nearest-only}
-use Rattle.table.specs.Table.{tableOf}
-use Rattle.curve.specs.Decoded.{decoderOf, raw, decoded}
-use Rattle.curve.proofs.Program.{top-small}
-use Rattle.curve.proofs.Fit.{fits}
-use Rattle.curve.proofs.Theorems.{raw-rises, raw-apart}
+use Rattle.curve_table.specs.Table.{tableOf}
+use Rattle.decode.specs.Decoded.{decoderOf, raw, decoded}
+use Rattle.decode.proofs.Program.{top-small}
+use Rattle.decode.proofs.Fit.{fits}
+use Rattle.decode.proofs.Theorems.{raw-rises, raw-apart}
 use Rattle.encode.specs.Encoded.{encoded}
-use Rattle.search.specs.Search.{Rising}
+use Rattle.nearest_code.specs.Search.{Rising}
 use Rattle.encode.proofs.HalfWays.{Within, within-nearest}
 
 -- a scene number that passes

@@ -12,9 +12,9 @@ use Rattle.whole.specs.Parts.{up, dn}
 use Rattle.whole.proofs.Reflect.{abs-is, at, sub, dif, one-zero, sub-dif}
 use Rattle.whole.proofs.Near.{Near}
 use Rattle.rules.specs.Encoding.{distance, IsNearest}
-use Rattle.curve.specs.Gap.{gap}
-use Rattle.curve.specs.Decoded.{offset}
-use Rattle.search.specs.Search.{Found}
+use Rattle.decode.specs.Gap.{gap}
+use Rattle.decode.specs.Decoded.{offset}
+use Rattle.nearest_code.specs.Search.{Found}
 
 -- ---- two numbers p and q with the offset, and half way between them
 

@@ -8,10 +8,10 @@ use Rattle.rules.specs.Exact.{scaleOf}
 use Rattle.rules.proofs.Settings.{forSettings, for-valid}
 use Rattle.curves.specs.Named.{named}
 use Rattle.curves.specs.LogC3.{rowOf}
-use Rattle.table.specs.Table.{logC3Table, logC4Table, tableOf}
-use Rattle.curve.specs.Decoded.{rawBy}
+use Rattle.curve_table.specs.Table.{logC3Table, logC4Table, tableOf}
+use Rattle.decode.specs.Decoded.{rawBy}
 use Rattle.whole.proofs.Tests.{every}
-use Rattle.curve.proofs.Settings.{sourceOf}
+use Rattle.decode.proofs.Settings.{sourceOf}
 use Rattle.encode.proofs.ThirdTests.{thirdTests}
 
 abbrev test : Setting → Bool

@@ -12,7 +12,7 @@ use mir.Val.{Fits, SFits}
 use Rattle.whole.specs.Parts.{up, dn}
 use Rattle.whole.proofs.Reflect.{abs-is, at, add, dif, one-zero, leN-of, ltN-of}
 use Rattle.whole.proofs.Words.{fitsZ, readBack, read-back}
-use Rattle.curve.specs.Decoded.{offset}
+use Rattle.decode.specs.Decoded.{offset}
 
 not-negative : (z : ℤ) → dn z ≡ 0 → T (nonNeg z)
 not-negative (pos n) e = tt

@@ -16,10 +16,10 @@ use Rattle.rules.specs.Exact.{scaleOf, VersusExact}
 use Rattle.rules.specs.Decoding.{unit, AtMost, AtLeast}
 use Rattle.rules.specs.Encoding.{IsNearest, TwoThirds}
 use Rattle.rules.proofs.Closest as closest
-use Rattle.table.specs.Table.{tableOf}
-use Rattle.curve.specs.Decoded.{offset, raw, decoded}
-use Rattle.curve.proofs.Settings.{sourceOf, passed}
-use Rattle.curve.proofs.Theorems.{raw-rises, raw-apart}
+use Rattle.curve_table.specs.Table.{tableOf}
+use Rattle.decode.specs.Decoded.{offset, raw, decoded}
+use Rattle.decode.proofs.Settings.{sourceOf, passed}
+use Rattle.decode.proofs.Theorems.{raw-rises, raw-apart}
 use Rattle.encode.specs.Encoded.{encoded}
 use Rattle.encode.proofs.HalfWays.{Within, own-within, first-within, last-within, near-within, nearest-within}
 use Rattle.encode.proofs.Codes.{code-is}

@@ -8,10 +8,10 @@ use Rattle.rules.specs.Choice.{choose}
 use Rattle.rules.specs.Fraction.{Fraction, ratio}
 use Rattle.rules.specs.Curve.{Curve, logC4, logC3, inToe, toeValue}
 use Rattle.rules.specs.Exact.{Scale, signal}
-use Rattle.table.specs.Table.{fine}
-use Rattle.curve.specs.Decoded.{offset, product, rawBy, decoderOf, firstOf}
+use Rattle.curve_table.specs.Table.{fine}
+use Rattle.decode.specs.Decoded.{offset, product, rawBy, decoderOf, firstOf}
 use Rattle.whole.proofs.Tests.{every}
-use Rattle.curve.proofs.Tests.{Source, slack, kappa, plus-less, minus-less, first, bias}
+use Rattle.decode.proofs.Tests.{Source, slack, kappa, plus-less, minus-less, first, bias}
 
 -- ---- the cube root of the ratio, at the scale of the seeds: Newton's steps from a third of what the ratio is above 1
 abbrev newton : (steps cube x : ℕ) → ℕ

@@ -22,14 +22,14 @@ use Rattle.rules.proofs.Values as values
 use Rattle.power.specs.Power.{Below, below, Above, above}
 use Rattle.power.proofs.Interval.{below-mul, above-mul, below-le, above-le, below-raise, above-raise, below-root, above-root}
 use Rattle.power.proofs.Rows.{In, in-mul}
-use Rattle.table.specs.Table.{lift, fine}
-use Rattle.curve.specs.Decoded.{offset, product, rawBy, decoderOf, firstOf, toeOf, overOf}
-use Rattle.curve.proofs.Cleared.{exponentAt}
+use Rattle.curve_table.specs.Table.{lift, fine}
+use Rattle.decode.specs.Decoded.{offset, product, rawBy, decoderOf, firstOf, toeOf, overOf}
+use Rattle.decode.proofs.Cleared.{exponentAt}
 use Rattle.whole.proofs.Tests.{nth, passes, every}
-use Rattle.curve.proofs.Tests.{Source, slack, tests, b, by, q, times, kappa, plus-less, minus-less, begin, entry, unit, first, bias}
-use Rattle.curve.proofs.Law as law
-use Rattle.curve.proofs.Right.{raw-toe, raw-power, passed, failed, toe-room, divisor}
-use Rattle.curve.proofs.Compare.{wanted, wanted-is, lifted-ok, by-rules}
+use Rattle.decode.proofs.Tests.{Source, slack, tests, b, by, q, times, kappa, plus-less, minus-less, begin, entry, unit, first, bias}
+use Rattle.decode.proofs.Law as law
+use Rattle.decode.proofs.Right.{raw-toe, raw-power, passed, failed, toe-room, divisor}
+use Rattle.decode.proofs.Compare.{wanted, wanted-is, lifted-ok, by-rules}
 use Rattle.encode.proofs.Sums.{half-le, half-ge, half-toe-le, half-toe-ge, power-le, power-ge}
 use Rattle.encode.proofs.ThirdTests.{third, twoThirds, wide, added, taken, underProduct, overProduct, underValue, overValue, signalAt, underTwoThirds, overThird, spare-up, spare-down, borderTests, thirdTests, third-low, third-high, apart-up, apart-down, thirds-up, thirds-down, borders, toe-apart, border-up, border-down}
 

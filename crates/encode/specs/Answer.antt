@@ -9,7 +9,7 @@ use Rattle.rules.specs.Result.{Result, done, refusedBy, single}
 use Rattle.rules.specs.Exact.{scaleOf}
 use Rattle.rules.specs.Setting.{settingCheck, topOf}
 use Rattle.rules.specs.Encoding.{IsNearest, TwoThirds, sceneCheck}
-use Rattle.curve.specs.Decoded.{decoded}
+use Rattle.decode.specs.Decoded.{decoded}
 use Rattle.encode.specs.declared.Encoding.{Encoding}
 use Rattle.encode.specs.Encoded.{encoded}
 

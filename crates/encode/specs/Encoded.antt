@@ -5,7 +5,7 @@ use lib.IntN.{ℤ}
 use Rattle.rules.specs.declared.Setting.{Setting}
 use Rattle.rules.specs.Setting.{topOf}
 use Rattle.rules.specs.Encoding.{closest}
-use Rattle.curve.specs.Decoded.{decoded}
+use Rattle.decode.specs.Decoded.{decoded}
 
 -- "the code whose decoded number is nearest; of two equally near, the lower"
 abbrev pub encoded : Setting → ℤ → ℕ

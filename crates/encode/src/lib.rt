@@ -5,10 +5,10 @@ ghost use Rattle.rules.specs.declared.Check.the-variants.{Passed};
 ghost use Rattle.rules.specs.Result.{Each, single};
 ghost use Rattle.rules.specs.Setting.{Valid};
 ghost use Rattle.rules.specs.Encoding.{sceneCheck};
-ghost use Rattle.curve.specs.Ready.{Ready};
+ghost use Rattle.decode.specs.Ready.{Ready};
 ghost use Rattle.encode.specs.Encoded.{encoded};
 ghost use Rattle.encode.specs.Answer.{encodingResult, encodeResult, Encodes};
-use curve::decoder::Decoder;
+use decode::decoder::Decoder;
 use rules::Check;
 use rules::Code;
 use rules::Refusal;
@@ -50,7 +50,7 @@ pub fn code_of(s: Setting, d: Decoder, t: &[u64; 128], x: Scene) -> Code
         return Code(0);
     }
     let top = Code(setting::top_code(s));
-    search::find(s, d, t, top, (number + OFFSET) as u64)
+    nearest_code::find(s, d, t, top, (number + OFFSET) as u64)
 }
 
 fn encode_valid(s: Setting, x: Scene) -> Encoding
@@ -61,7 +61,7 @@ fn encode_valid(s: Setting, x: Scene) -> Encoding
         Check::Refused(r) => Encoding::Refused(r),
         Check::Passed => {
             let d = Decoder::new(s);
-            let t = table::table(s);
+            let t = curve_table::table(s);
             Encoding::Code(code_of(s, d, &t, x))
         }
     }

@@ -18,7 +18,7 @@ fn piece(k: u64) -> bool {
     let mut input = [0u8; BYTES];
     let mut text = [0u8; TEXT];
     let n = io::read_full(STDIN_FILENO, &mut input);
-    let count = listing::list(k, &input[..n], &mut text);
+    let count = lister_text::list(k, &input[..n], &mut text);
     io::write_all(STDOUT_FILENO, &text[..count]) && n == BYTES
 }
 

@@ -9,7 +9,7 @@ use lib.ListN.{length}
 use Rattle.rules.specs.declared.Answer.{Answer}
 use Rattle.rules.specs.declared.Answer.the-variants.{Done}
 use Rattle.rules.specs.Strip.{Conversion, recordAt, answerOf, outputAfter, Converts}
-use Rattle.conversion.specs.Conversions.{pixelToScene, sceneToPixel}
+use Rattle.record_conversion.specs.Conversions.{pixelToScene, sceneToPixel}
 use Rattle.strip.specs.Lent.{LentBytes}
 use Rattle.promise.specs.Words.{HoldsPixel}
 use Rattle.promise.specs.Scenes.{HoldsScene, DecodedRecord, EncodedRecord, ConvertedEach}

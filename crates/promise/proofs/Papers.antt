@@ -19,10 +19,10 @@ use Rattle.rules.specs.Strip.{records, recordAt, written}
 use Rattle.rules.specs.WayBack.{acesOf, pixelWith}
 use Rattle.rules.proofs.Search.{same-aces, same-found}
 use Rattle.rules.proofs.Settings.{code-passed}
-use Rattle.curve.specs.Decoded.{decoded}
+use Rattle.decode.specs.Decoded.{decoded}
 use Rattle.decoded_nearest.specs.Nearest.{NearestNumbers}
 use Rattle.decoded_nearest.proofs.Theorems.{nearest-numbers}
-use Rattle.wayback.specs.Back.{pixelFor}
+use Rattle.way_back.specs.Back.{pixelFor}
 use Rattle.strip.proofs.First.{at-start, at-later}
 use Rattle.promise.specs.Words.{HoldsPixel, Accepted, madeBy, made}
 use Rattle.promise.proofs.Strips.{whole-records}

@@ -19,13 +19,13 @@ use Rattle.rules.specs.Record.{IsBytes, ofBits, sizeOf, codeBytes, numberBytes,
 use Rattle.rules.specs.Strip.{recordCheck, recordAt, outputAfter}
 use Rattle.rules.proofs.Records.{length-record}
 use Rattle.rules.proofs.Settings.{code-passed}
-use Rattle.curve.proofs.Program.{top-small}
-use Rattle.curve.proofs.Theorems.{decoding}
+use Rattle.decode.proofs.Program.{top-small}
+use Rattle.decode.proofs.Theorems.{decoding}
 use Rattle.encode.proofs.Theorems.{encoded-nearest, encoded-two-thirds}
-use Rattle.conversion.specs.Conversions.{channelChecks, channelwise, sceneBits, numberCheck, codeBits, pixelToScene, sceneToPixel}
-use Rattle.conversion.proofs.Good.{Good}
-use Rattle.conversion.proofs.Channelwise.{setting-valid, channel-passes, setting-copied, channel-written}
-use Rattle.conversion.proofs.SceneBits.{scene-fits, scene-read}
+use Rattle.record_conversion.specs.Conversions.{channelChecks, channelwise, sceneBits, numberCheck, codeBits, pixelToScene, sceneToPixel}
+use Rattle.record_conversion.proofs.Good.{Good}
+use Rattle.record_conversion.proofs.Channelwise.{setting-valid, channel-passes, setting-copied, channel-written}
+use Rattle.record_conversion.proofs.SceneBits.{scene-fits, scene-read}
 use Rattle.strip.proofs.First.{all-done}
 use Rattle.strip.proofs.Back.{whole-done}
 use Rattle.promise.specs.Words.{Accepted}

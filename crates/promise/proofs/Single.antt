@@ -27,16 +27,16 @@ use Rattle.rules.specs.Strip.{recordCheck}
 use Rattle.rules.specs.WayBack.{IsPixel, foundCheck}
 use Rattle.rules.proofs.Records.{FitsRecord, value-small, drop-bytes, read-setting, read-channels, write-read, of-to, to-of, bits-fit, length-record}
 use Rattle.rules.proofs.Settings.{both, code-passed, refused-never}
-use Rattle.curve.specs.Decoded.{decoded}
-use Rattle.inverse.specs.Given.{Small3, Given}
-use Rattle.inverse.proofs.Inverse.{aces-small}
-use Rattle.matrix.proofs.Theorems.{decoded-small}
-use Rattle.wayback.specs.Back.{pixelAces, pixelFor}
-use Rattle.wayback.proofs.Theorems.{found-gives, own-found, one-pixel}
+use Rattle.decode.specs.Decoded.{decoded}
+use Rattle.aces_inverse.specs.Given.{Small3, Given}
+use Rattle.aces_inverse.proofs.Inverse.{aces-small}
+use Rattle.aces.proofs.Theorems.{decoded-small}
+use Rattle.way_back.specs.Back.{pixelAces, pixelFor}
+use Rattle.way_back.proofs.Theorems.{found-gives, own-found, one-pixel}
 use Rattle.rules.specs.Contents.{pixelIn, pixelRecord, tripleIn, acesRecord}
-use Rattle.conversion.specs.Conversions.{channelChecks, pixelFound, pixelToAces, acesToPixel}
-use Rattle.conversion.proofs.Channels.{codes-pixel}
-use Rattle.conversion.proofs.Good.{Good}
+use Rattle.record_conversion.specs.Conversions.{channelChecks, pixelFound, pixelToAces, acesToPixel}
+use Rattle.record_conversion.proofs.Channels.{codes-pixel}
+use Rattle.record_conversion.proofs.Good.{Good}
 use Rattle.promise.specs.Words.{given, HoldsPixel, Without, OnlyPixel, refusalOf}
 
 -- ---- numbers in eight bytes

@@ -31,17 +31,17 @@ use Rattle.rules.specs.Strip.{Conversion, recordCheck, records, recordAt, writt
 use Rattle.rules.proofs.Results.{number-positive, done-answer, refused-answer}
 use Rattle.rules.proofs.Settings.{code-passed, refused-never}
 use Rattle.rules.proofs.Records.{length-record}
-use Rattle.curve.specs.Decoded.{decoded}
-use Rattle.matrix.proofs.Theorems.{aces-within}
+use Rattle.decode.specs.Decoded.{decoded}
+use Rattle.aces.proofs.Theorems.{aces-within}
 use Rattle.rules.specs.Contents.{pixelIn}
-use Rattle.conversion.specs.Conversions.{pixelToAces, acesToPixel}
-use Rattle.conversion.proofs.Good.{Good}
-use Rattle.passes.proofs.FirstPass.{scan-passes, counted}
+use Rattle.record_conversion.specs.Conversions.{pixelToAces, acesToPixel}
+use Rattle.record_conversion.proofs.Good.{Good}
+use Rattle.strip_passes.proofs.FirstPass.{scan-passes, counted}
 use Rattle.strip.proofs.First.{FirstRefused, all-done, first-answered, answered-first}
 use Rattle.strip.proofs.Join.{whole-answer}
 use Rattle.strip.proofs.Back as back
-use Rattle.wayback.specs.Back.{pixelFor, wayBackResult}
-use Rattle.wayback.proofs.Theorems.{found-gives, one-pixel, nothing-gives}
+use Rattle.way_back.specs.Back.{pixelFor, wayBackResult}
+use Rattle.way_back.proofs.Theorems.{found-gives, one-pixel, nothing-gives}
 use Rattle.promise.specs.Words.{Accepted, HoldsPixel, made, numberIn, NearExact, Without, OnlyPixel, SomeWithout, FirstWithout, refusalOf, refusedAt, ReportsFirst, WithoutPixel, IsOnlyPixel, GivesOnly}
 use Rattle.promise.proofs.Single.{same-triple, back-passes, back-same, passed-only, not-both, refused-without, refusal-number}
 use Rattle.promise.proofs.Strips.{written-at, length-at, bytes-at, aces-long, accepted-good, accepted-whole, made-records, made-long, made-at}

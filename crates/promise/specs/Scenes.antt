@@ -14,7 +14,7 @@ use Rattle.rules.specs.Decoding.{Decodes}
 use Rattle.rules.specs.Encoding.{IsNearest, TwoThirds, sceneCheck}
 use Rattle.rules.specs.Record.{IsBytes, codeBytes, numberBytes, ofBits, settingOf, channelAt}
 use Rattle.rules.specs.Strip.{Conversion, recordAt, answerOf, outputAfter}
-use Rattle.curve.specs.Decoded.{decoded}
+use Rattle.decode.specs.Decoded.{decoded}
 
 -- a scene strip that encoding accepts: a whole number of records, and each holds a valid setting
 -- and three numbers that pass check 7

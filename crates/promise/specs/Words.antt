@@ -19,8 +19,8 @@ use Rattle.rules.specs.Matrix.{matrixOf}
 use Rattle.rules.specs.Record.{IsBytes, numberBytes, ofBits, settingOf, channelAt}
 use Rattle.rules.specs.Strip.{records, recordAt, written}
 use Rattle.rules.specs.WayBack.{IsPixel, codes, acesOf}
-use Rattle.curve.specs.Decoded.{decoded}
-use Rattle.wayback.specs.Back.{pixelAces}
+use Rattle.decode.specs.Decoded.{decoded}
+use Rattle.way_back.specs.Back.{pixelAces}
 use Rattle.rules.specs.Contents.{pixelIn, pixelRecord, acesRecord}
 
 -- "It gives the ACES record that holds this setting and the pixel's three ACES numbers."

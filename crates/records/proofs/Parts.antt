@@ -13,7 +13,7 @@ use Rattle.whole.proofs.Words.{readBack, read-back}
 use Rattle.rules.specs.declared.Setting.{Setting}
 use Rattle.rules.specs.Record.{digits, bytesOf, toBits, Channels, recordOf}
 use Rattle.rules.proofs.Records.{length-digits, length-setting, record-parts}
-use Rattle.numbers.proofs.Stretch.{pasted, onward, emptied}
+use Rattle.little_endian.proofs.Stretch.{pasted, onward, emptied}
 
 -- a setting
 pub setting-bytes : (curve width ei : ℕ) → curve < 256 → width < 256

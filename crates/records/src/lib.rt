@@ -20,7 +20,7 @@ pub fn setting_of(r: &[u8]) -> Setting
     Setting {
         curve: r[0],
         width: r[1],
-        ei: numbers::word_at(r, 2),
+        ei: little_endian::word_at(r, 2),
     }
 }
 
@@ -41,9 +41,9 @@ pub fn pixel_in(r: &[u8]) -> Pixel
     ensures { λ p. ⌜ p ≡ pixelIn (now (r .entry)) ⌝ }
 {
     Pixel {
-        red: Code(numbers::word_at(r, 4)),
-        green: Code(numbers::word_at(r, 6)),
-        blue: Code(numbers::word_at(r, 8)),
+        red: Code(little_endian::word_at(r, 4)),
+        green: Code(little_endian::word_at(r, 6)),
+        blue: Code(little_endian::word_at(r, 8)),
     }
 }
 
@@ -53,9 +53,9 @@ pub fn triple_in(r: &[u8]) -> Triple
     ensures { λ a. ⌜ a ≡ tripleIn (now (r .entry)) ⌝ }
 {
     Triple {
-        red: Aces(numbers::long_at(r, 4)),
-        green: Aces(numbers::long_at(r, 12)),
-        blue: Aces(numbers::long_at(r, 20)),
+        red: Aces(little_endian::long_at(r, 4)),
+        green: Aces(little_endian::long_at(r, 12)),
+        blue: Aces(little_endian::long_at(r, 20)),
     }
 }
 
@@ -65,9 +65,9 @@ pub fn put_pixel(out: &mut [u8], s: Setting, p: Pixel)
     ensures { λ _. ⌜ now (out .exit) ≡ pixelRecord s p ⌝ }
 {
     put_setting(&mut out[0..4], s);
-    numbers::put_word(&mut out[4..6], p.red.0);
-    numbers::put_word(&mut out[6..8], p.green.0);
-    numbers::put_word(&mut out[8..10], p.blue.0);
+    little_endian::put_word(&mut out[4..6], p.red.0);
+    little_endian::put_word(&mut out[6..8], p.green.0);
+    little_endian::put_word(&mut out[8..10], p.blue.0);
 }
 
 // A record with three signed numbers, whatever they stand for.
@@ -76,9 +76,9 @@ fn put_numbers(out: &mut [u8], s: Setting, red: i64, green: i64, blue: i64)
     ensures { λ _. ⌜ now (out .exit) ≡ recordOf 8 s (record { red = toBits 8 red; green = toBits 8 green; blue = toBits 8 blue }) ⌝ }
 {
     put_setting(&mut out[0..4], s);
-    numbers::put_long(&mut out[4..12], red);
-    numbers::put_long(&mut out[12..20], green);
-    numbers::put_long(&mut out[20..28], blue);
+    little_endian::put_long(&mut out[4..12], red);
+    little_endian::put_long(&mut out[12..20], green);
+    little_endian::put_long(&mut out[20..28], blue);
 }
 
 // A scene record.

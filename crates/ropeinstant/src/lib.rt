@@ -1,14 +1,14 @@
 // The conversions of strips and of float pixels for C. A function over strips lends them to a conversion of `strip` and gives the answer as a
 // number and a place; one over a float pixel gives the number, and writes where it is 0. include/ropeinstant.h declares them.
 ghost use mathlib.Core.Path.{_≡_};
-ghost use Rattle.conversion.specs.Conversions.{pixelToScene, sceneToPixel, pixelToAces, acesToPixel};
+ghost use Rattle.record_conversion.specs.Conversions.{pixelToScene, sceneToPixel, pixelToAces, acesToPixel};
 ghost use Rattle.rules.specs.Result.{stripResult};
 ghost use Rattle.strip.specs.Lent.{LentBytes};
 ghost use Rattle.ropeinstant.specs.Given.{place, Gives};
 ghost use Rattle.ropeinstant.specs.Floats.{decoding, encoding, GivesValues};
-use float::FloatDecoding;
-use float::FloatPixel;
-use from_float::FloatEncoding;
+use float_decode::FloatDecoding;
+use float_decode::FloatPixel;
+use float_encode::FloatEncoding;
 use rules::Answer;
 use rules::Code;
 use rules::Pixel;
@@ -90,7 +90,7 @@ pub extern "C" fn ropeinstant_codes_to_floats(
         green: Code(green),
         blue: Code(blue),
     };
-    match float::decode_pixel(s, p) {
+    match float_decode::decode_pixel(s, p) {
         FloatDecoding::Pixel(f) => {
             *floats = [f.red, f.green, f.blue];
             0
@@ -122,7 +122,7 @@ pub extern "C" fn ropeinstant_floats_to_codes(
         green: green,
         blue: blue,
     };
-    match from_float::encode_pixel(s, f) {
+    match float_encode::encode_pixel(s, f) {
         FloatEncoding::Pixel(p) => {
             *codes = [p.red.0, p.green.0, p.blue.0];
             0

@@ -20,9 +20,9 @@ use Rattle.rules.specs.Choice.{choose}
 use Rattle.rules.specs.Record.{IsBytes}
 use Rattle.rules.specs.Strip.{Conversion, recordCheck, records, written, scan, scanOf, answerOf, outputAfter}
 use Rattle.rules.proofs.Records.{take-bytes, drop-bytes}
-use Rattle.conversion.proofs.Good.{Good}
-use Rattle.passes.proofs.Cut.{length-written}
-use Rattle.passes.proofs.FirstPass.{go-on, never, counted}
+use Rattle.record_conversion.proofs.Good.{Good}
+use Rattle.strip_passes.proofs.Cut.{length-written}
+use Rattle.strip_passes.proofs.FirstPass.{go-on, never, counted}
 use Rattle.strip.proofs.Join.{whole-answer}
 
 -- each of the records is one

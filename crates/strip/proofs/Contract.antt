@@ -15,7 +15,7 @@ use Rattle.rules.specs.declared.Refusal.the-variants.{PartialRecord, ShortOutpu
 use Rattle.rules.specs.Strip.{Conversion, records, written, scan, scanOf, answerOf, outputAfter, Converts}
 use Rattle.strip.specs.Lent.{LentBytes}
 use Rattle.strip.specs.Writable.{writable}
-use Rattle.passes.proofs.FirstPass.{counted}
+use Rattle.strip_passes.proofs.FirstPass.{counted}
 
 -- ---- what owning a slice of u8 says of its elements
 pub lent-bytes : {input output after : List ℕ} → ((i : ℕ) → Fits w8 (getD input i 0)) → ((i : ℕ) → Fits w8 (getD output i 0)) → ((i : ℕ) → Fits w8 (getD after i 0))

@@ -12,7 +12,7 @@ use Rattle.rules.specs.declared.Check.{Check}
 use Rattle.rules.specs.declared.Check as check
 use Rattle.rules.specs.declared.Refusal.{Refusal}
 use Rattle.rules.specs.Strip.{records, orNext, scan, recordAt}
-use Rattle.passes.proofs.FirstPass.{never}
+use Rattle.strip_passes.proofs.FirstPass.{never}
 
 refused-at : {why why′ : Refusal} {k k′ : ℕ} → Refused why k ≡ Refused why′ k′ → (why ≡ why′) × (k ≡ k′)
 refused-at e = (cc, cc)

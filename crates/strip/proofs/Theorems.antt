@@ -15,12 +15,12 @@ use Rattle.rules.specs.Record.{IsBytes, codeBytes, numberBytes, settingOf}
 use Rattle.rules.specs.Strip.{recordCheck, answerOf, outputAfter}
 use Rattle.rules.proofs.Records.{length-record}
 use Rattle.rules.proofs.Settings.{code-passed}
-use Rattle.curve.proofs.Limit.{decoded-passes}
+use Rattle.decode.proofs.Limit.{decoded-passes}
 use Rattle.encode.proofs.Theorems.{encode-decoded}
-use Rattle.conversion.specs.Conversions.{sceneBits, numberCheck, codeBits, pixelToScene, sceneToPixel}
-use Rattle.conversion.proofs.Good.{Good}
-use Rattle.conversion.proofs.Channelwise.{TakenBack, record-passes, record-back}
-use Rattle.conversion.proofs.SceneBits.{scene-fits, scene-read}
+use Rattle.record_conversion.specs.Conversions.{sceneBits, numberCheck, codeBits, pixelToScene, sceneToPixel}
+use Rattle.record_conversion.proofs.Good.{Good}
+use Rattle.record_conversion.proofs.Channelwise.{TakenBack, record-passes, record-back}
+use Rattle.record_conversion.proofs.SceneBits.{scene-fits, scene-read}
 use Rattle.strip.proofs.Back as back
 
 -- a code's number, in its bytes, is read back, passes, and is encoded to the code

@@ -2,10 +2,10 @@
 // strip takes one pass, into a buffer.
 ghost use mathlib.Core.Path.{_≡_};
 ghost use Rattle.rules.specs.Strip.{Converts};
-ghost use Rattle.conversion.specs.Conversions.{pixelToScene, sceneToPixel, pixelToAces, acesToPixel, conversionOf};
+ghost use Rattle.record_conversion.specs.Conversions.{pixelToScene, sceneToPixel, pixelToAces, acesToPixel, conversionOf};
 ghost use Rattle.strip.specs.Lent.{LentBytes};
 ghost use Rattle.strip.specs.Writable.{writable};
-use conversion::Kind;
+use record_conversion::Kind;
 use rules::Answer;
 use rules::Refusal;
 
@@ -28,8 +28,8 @@ fn convert(k: Kind, input: &[u8], output: &mut [u8]) -> Answer
     ensures { λ a. ⌜ Converts (conversionOf k) (now (input .entry)) (now (output .entry)) a (now (output .exit)) ⌝ }
     ensures { λ _. ⌜ LentBytes (now (input .entry)) (now (output .entry)) (now (output .exit)) ⌝ }
 {
-    let from = conversion::size_from(k);
-    let to = conversion::size_to(k);
+    let from = record_conversion::size_from(k);
+    let to = record_conversion::size_to(k);
     if input.len() % from != 0 {
         return Answer::Refused(Refusal::PartialRecord, 0);
     }
@@ -37,8 +37,8 @@ fn convert(k: Kind, input: &[u8], output: &mut [u8]) -> Answer
     if output.len() / to < n {
         return Answer::Refused(Refusal::ShortOutput, 0);
     }
-    let scanned = passes::scan(k, input, n);
-    passes::write(k, input, output, to_write(scanned));
+    let scanned = strip_passes::scan(k, input, n);
+    strip_passes::write(k, input, output, to_write(scanned));
     scanned
 }
 
@@ -72,13 +72,13 @@ pub fn aces_to_pixel(input: &[u8], output: &mut [u8]) -> Answer
     ensures { λ a. ⌜ Converts acesToPixel (now (input .entry)) (now (output .entry)) a (now (output .exit)) ⌝ }
     ensures { λ _. ⌜ LentBytes (now (input .entry)) (now (output .entry)) (now (output .exit)) ⌝ }
 {
-    let n = input.len() / one_pass::FROM;
+    let n = input.len() / strip_one_pass::FROM;
     if FEW <= n
         && n <= SHORT
-        && input.len() % one_pass::FROM == 0
-        && n * one_pass::TO <= output.len()
+        && input.len() % strip_one_pass::FROM == 0
+        && n * strip_one_pass::TO <= output.len()
     {
-        return one_pass::aces_to_pixel(input, n, output);
+        return strip_one_pass::aces_to_pixel(input, n, output);
     }
     convert(Kind::AcesToPixel, input, output)
 }

@@ -3,7 +3,7 @@
 use libc::STDIN_FILENO;
 use libc::STDOUT_FILENO;
 use rules::Pixel;
-use wayback::Back;
+use way_back::Back;
 
 fn print_codes(p: Pixel) {
     io::print_decimal(STDOUT_FILENO, p.red.0 as u64);
@@ -30,7 +30,7 @@ fn one() -> bool {
     if io::read_full(STDIN_FILENO, &mut r) < 28 {
         return false;
     }
-    print_answer(wayback::way_back(records::setting_of(&r), records::triple_in(&r)));
+    print_answer(way_back::way_back(records::setting_of(&r), records::triple_in(&r)));
     true
 }
 

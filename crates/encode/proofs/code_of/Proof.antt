@@ -8,8 +8,8 @@ use mir.Val.{SFits}
 use Rattle.whole.specs.Parts.{up, dn}
 use Rattle.whole.proofs.Words.{read-back}
 use Rattle.rules.specs.Setting.{topOf}
-use Rattle.curve.specs.Decoded.{offset, raw}
-use Rattle.curve.proofs.Theorems.{raw-rises}
+use Rattle.decode.specs.Decoded.{offset, raw}
+use Rattle.decode.proofs.Theorems.{raw-rises}
 use Rattle.encode.proofs.HalfWays.{found-within, first-within}
 use Rattle.encode.proofs.Codes.{scene-passed, rising, code-is}
 use Rattle.encode.proofs.Shifted as shifted

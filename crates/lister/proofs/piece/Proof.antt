@@ -3,7 +3,7 @@
 use mathlib.Core.Path.{sym}
 use lib.Seq.{length-take-le}
 use borrow.Author.Needs.{needs}
-use Rattle.listing.proofs.Theorems.{count-within}
+use Rattle.lister_text.proofs.Theorems.{count-within}
 use Rattle.lister.proofs.piece.Statement.{statement}
 use Rattle.lister.proofs.piece.Tie as tie
 

@@ -5,7 +5,7 @@ use mathlib.Core.List.{[], _∷_}
 use Prim.Native.Nat.{_/_, _%_}
 use native.Mathlib.Omega.{arith}
 use denote.Ref.{now}
-use Rattle.numbers.proofs.Bytes.{stored}
+use Rattle.little_endian.proofs.Bytes.{stored}
 use Rattle.records.proofs.Parts.{setting-bytes}
 use borrow.Author.Needs.{needs}
 use Rattle.records.proofs.put_setting.Statement.{statement}

@@ -2,7 +2,7 @@
 -- Assumes nothing.
 use mathlib.Core.Path.{_∙_, sym, ap}
 use borrow.Author.Needs.{needs}
-use Rattle.float.specs.Answer.{floatDecodingResult}
+use Rattle.float_decode.specs.Answer.{floatDecodingResult}
 use Rattle.ropeinstant.proofs.Written.{gives}
 use Rattle.ropeinstant.proofs.ropeinstant_codes_to_floats.Statement.{statement}
 use Rattle.ropeinstant.proofs.ropeinstant_codes_to_floats.Tie as tie

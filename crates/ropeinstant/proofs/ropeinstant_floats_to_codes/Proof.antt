@@ -2,7 +2,7 @@
 -- Assumes nothing.
 use mathlib.Core.Path.{_∙_, sym, ap}
 use borrow.Author.Needs.{needs}
-use Rattle.from_float.specs.Answer.{floatEncodingResult}
+use Rattle.float_encode.specs.Answer.{floatEncodingResult}
 use Rattle.ropeinstant.proofs.Written.{gives}
 use Rattle.ropeinstant.proofs.ropeinstant_floats_to_codes.Statement.{statement}
 use Rattle.ropeinstant.proofs.ropeinstant_floats_to_codes.Tie as tie

@@ -3,7 +3,7 @@
 use borrow.Author.Needs.{needs}
 use borrow.Author.Tests.{eqb-true, leb-true}
 use denote.Ref.{now}
-use Rattle.conversion.specs.Conversions.{acesToPixel}
+use Rattle.record_conversion.specs.Conversions.{acesToPixel}
 use Rattle.strip.proofs.Contract.{lent-bytes, in-one-pass}
 use Rattle.strip.proofs.aces_to_pixel.Statement.{statement}
 use Rattle.strip.proofs.aces_to_pixel.Tie as tie

@@ -7,7 +7,7 @@ use lib.ListN.{length}
 use Prim.Native.Nat.{ℕ, _*_, _/_, _%_, _≤_, _<_}
 use Rattle.rules.specs.Strip.{scanOf}
 use Rattle.strip.proofs.Contract.{lent-bytes, not-whole, too-short, to-write, finished}
-use Rattle.conversion.specs.Conversions.{conversionOf}
+use Rattle.record_conversion.specs.Conversions.{conversionOf}
 use Rattle.strip.specs.Lent.{LentBytes}
 use borrow.Author.Needs.{needs}
 use Rattle.strip.proofs.convert.Statement.{statement}

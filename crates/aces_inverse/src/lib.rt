@@ -1,0 +1,68 @@
+// From ACES numbers back to the scene numbers beside a pixel's: the inverse of its matrix, rounded once.
+ghost use mathlib.Core.Path.{_≡_};
+ghost use Prim.Native.Nat.{_^_};
+ghost use Rattle.rules.specs.Fraction.{integer, whole, _/ℚ_, nearest};
+ghost use Rattle.row_product.specs.Row.{Sum};
+ghost use Rattle.aces_inverse.specs.Given.{Given};
+ghost use Rattle.aces_inverse.specs.Inverse.{lowRows, highRows, pair, IsCandidate};
+
+mod entries;
+
+use rules::Scene;
+use rules::Setting;
+use rules::Triple;
+
+// The three scene numbers that a way back tries.
+pub struct Scenes {
+    pub red: Scene,
+    pub green: Scene,
+    pub blue: Scene,
+}
+
+// The digits of the inverse of a setting's matrix.
+fn high_of(s: Setting) -> [[i64; 3]; 3]
+    ensures { λ m. ⌜ m ≡ highRows s ⌝ }
+{
+    if s.curve == 3 {
+        entries::BACK_3_HIGH
+    } else {
+        entries::BACK_4_HIGH
+    }
+}
+
+fn low_of(s: Setting) -> [[i64; 3]; 3]
+    ensures { λ m. ⌜ m ≡ lowRows s ⌝ }
+{
+    if s.curve == 3 {
+        entries::BACK_3_LOW
+    } else {
+        entries::BACK_4_LOW
+    }
+}
+
+// A row product over 2^40, of which l and h are those of the digits, rounded once.
+fn over_binary(l: i64, h: i64) -> i64
+    requires { ⌜ Sum l ⌝ }
+    requires { ⌜ Sum h ⌝ }
+    ensures { λ r. ⌜ r ≡ nearest (integer (pair h l) /ℚ whole (2 ^ 40)) ⌝ }
+{
+    let carry = whole::floor_div(l, entries::P21);
+    whole::floor_div(h + carry + 262144, 524288)
+}
+
+// The scene numbers that a way back tries for three ACES numbers.
+pub fn candidate(s: Setting, a: Triple) -> Scenes
+    requires { ⌜ Given (a .red .0) (a .green .0) (a .blue .0) ⌝ }
+    ensures { λ r. ⌜ IsCandidate s (a .red .0) (a .green .0) (a .blue .0) (r .red .0) (r .green .0) (r .blue .0) ⌝ }
+{
+    let red = a.red.0;
+    let green = a.green.0;
+    let blue = a.blue.0;
+    let l = row_product::products(low_of(s), red, green, blue);
+    let h = row_product::products(high_of(s), red, green, blue);
+    Scenes {
+        red: Scene(over_binary(l.red, h.red)),
+        green: Scene(over_binary(l.green, h.green)),
+        blue: Scene(over_binary(l.blue, h.blue)),
+    }
+}

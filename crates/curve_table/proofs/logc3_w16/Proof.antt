@@ -1,0 +1,23 @@
+-- `logc3_w16` meets its contract: each arm's table is computed; the last arm is for the last row.
+-- Assumes nothing.
+use Rattle.curve_table.specs.Table.{logC3Table}
+use Rattle.curve_table.proofs.Last.{last-row}
+use Rattle.curve_table.proofs.logc3_w16.Statement.{statement}
+use Rattle.curve_table.proofs.logc3_w16.Tie as tie
+
+pub logc3-w16-spec : {M : Type 1} → statement M
+unfolding logC3Table
+logc3-w16-spec =
+    tie.close
+    (tie.spec
+    (λ c. rw (c .match .keys1))
+    (λ c. rw (c .match .keys2))
+    (λ c. rw (c .match .keys3))
+    (λ c. rw (c .match .keys4))
+    (λ c. rw (c .match .keys5))
+    (λ c. rw (c .match .keys6))
+    (λ c. rw (c .match .keys7))
+    (λ c. rw (c .match .keys8))
+    (λ c. rw (c .match .keys9))
+    (λ c. rw (c .match .keys10))
+    (λ c. rw (last-row 16 (c .before .args .row) (c .match .rest))))

@@ -1,0 +1,53 @@
+-- `table` meets its contract: the arms are those of the definition.
+-- Assumes nothing.
+use mathlib.Core.Path.{_≡_, sym, _∙_}
+use borrow.Author.Needs.{needs}
+use borrow.Author.Tests.{ne-eqb}
+use Rattle.curve_table.specs.Table.{tableOf}
+use Rattle.curve_table.proofs.table.Statement.{statement}
+use Rattle.curve_table.proofs.table.Tie as tie
+
+returns : tie.Need-returns
+unfolding tableOf
+returns c =
+    let s = c .before .before .before in
+    rw (sym (s .before .before .of .ensures) ∙ s .enum-told .given .1, c .before .match2 .keys1, ← (c .before .before .row .ensures)) (c .logc3-w10 .ensures)
+
+returns-2 : tie.Need-returns-2
+unfolding tableOf
+returns-2 c =
+    let s = c .before .before .before in
+    rw (sym (s .before .before .of .ensures) ∙ s .enum-told .given .1, c .before .match2 .keys2, ← (c .before .before .row .ensures)) (c .logc3-w12 .ensures)
+
+returns-3 : tie.Need-returns-3
+unfolding tableOf
+returns-3 c =
+    let s = c .before .before .before in
+    rw (sym (s .before .before .of .ensures) ∙ s .enum-told .given .1, ne-eqb _ 10 (c .before .match2 .rest .0 .1), ne-eqb _ 12 (c .before .match2 .rest .1), ← (c .before .before .row .ensures)) (c .logc3-w16 .ensures)
+
+returns-4 : tie.Need-returns-4
+unfolding tableOf
+returns-4 c = rw (sym (c .before .before .before .of .ensures) ∙ c .before .enum-told2 .given .1) (c .logc4 .ensures)
+
+returns-5 : tie.Need-returns-5
+unfolding tableOf
+returns-5 c = rw (sym (c .before .before .of .ensures) ∙ c .enum-told3 .given .1)
+
+pub table-spec : {M : Type 1} → statement M
+table-spec =
+    tie.close
+    (tie.spec
+    (λ c κs. search needs)
+    (λ c. search needs)
+    (λ c κs. search needs)
+    (λ c κs. search needs)
+    (λ c κs. search needs)
+    (λ c κs. search needs)
+    (λ c. search needs)
+    (λ c κs. search needs)
+    (λ c. search needs)
+    returns
+    returns-2
+    returns-3
+    returns-4
+    returns-5)

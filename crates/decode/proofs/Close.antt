@@ -1,0 +1,63 @@
+-- A decoded number is less than the tolerance from the exact value, in the toe too.
+-- Assumes nothing.
+use mathlib.Core.Bool.{Bool, true, false}
+use mathlib.Core.List.{List}
+use mathlib.Core.Path.{_≡_, refl, _∙_}
+use Prim.Native.Nat.{ℕ, _+_, _-_, _*_, _^_, _≤_, _<_}
+use native.Mathlib.Nat.{sub-zero, le-of-lt, mul-le-mul-left, mul-lt-mul-of-pos-right}
+use native.Mathlib.Omega.{arith}
+use lib.Dec.{T, lit<}
+use lib.IntN.{ℤ, subℕ}
+use lib.Signed.{shrZ}
+use Rattle.whole.specs.Parts.{up, dn}
+use Rattle.whole.proofs.Floor.{half-bounds}
+use Rattle.whole.proofs.Tidy.{tidy}
+use Rattle.rules.specs.declared.Setting.{Setting}
+use Rattle.rules.specs.Setting.{topOf, curveOf, Valid}
+use Rattle.rules.specs.Fraction.{Fraction, ratio, whole, integer, _+ℚ_, _-ℚ_, _*ℚ_, nearest, Versus}
+use Rattle.rules.specs.Curve.{Curve, logC4, logC3, inToe, toeValue}
+use Rattle.rules.specs.Exact.{Scale, signal, scaleOf, VersusPart, VersusExact}
+use Rattle.rules.specs.Decoding.{unit, tolerance, Less, Greater, DecodesPart}
+use Rattle.curve_table.specs.Table.{tableOf}
+use Rattle.decode.specs.Decoded.{decoded}
+use Rattle.whole.proofs.Tests.{every}
+use Rattle.decode.proofs.Tests.{Source, tests}
+use Rattle.decode.proofs.Right.{divisor}
+use Rattle.decode.proofs.Settings.{sourceOf, passed}
+use Rattle.decode.proofs.Theorems.{decoding}
+
+-- y is less than e units from the exact value at a code
+pub record Close (e : Fraction) (k : Scale) (code : ℕ) (y : ℤ) : Type 0 where
+  pub under : VersusExact Less k (whole code) ((integer y -ℚ e) *ℚ unit)
+  pub over : VersusExact Greater k (whole code) ((integer y +ℚ e) *ℚ unit)
+
+-- a fraction's nearest whole number is at most a half away, so less than any N / D above a half
+module _ (N D : ℕ) (half : D < 2 * N) where
+  toe-close : (t : Fraction) → 0 < t .over → (y : ℤ) → y ≡ nearest (t *ℚ whole (2 ^ 24))
+      → Versus Less ((integer y -ℚ ratio N D) *ℚ unit) t × Versus Greater ((integer y +ℚ ratio N D) *ℚ unit) t
+  toe-close t h y e =
+      let b = half-bounds (t .plus * 2 ^ 24) (t .minus * 2 ^ 24) (t .over) h y (simp tidy at e) in
+      let more = mul-lt-mul-of-pos-right {k = t .over} half h in
+      (simp tidy (omega (arith, mul-le-mul-left D (b .0))), simp tidy (omega (arith, mul-le-mul-left D (le-of-lt (b .1)))))
+
+  part-close : (k : Scale) (n : ℕ) (y : ℤ) (b : Bool) → (T b → 0 < toeValue (k .curve) (signal k (whole n)) .over) → inToe (k .curve) (signal k (whole n)) ≡ b
+      → DecodesPart (ratio N D) k n y b → Close (ratio N D) k n y
+  part-close k n y true h e (DecodesPart.toe p) =
+      let c = toe-close (toeValue (k .curve) (signal k (whole n))) (h tt) y p in
+      record { under = rw e (VersusPart.toe (c .0)); over = rw e (VersusPart.toe (c .1)) }
+  part-close k n y false h e (DecodesPart.power l g) = record { under = l; over = g }
+
+-- the toe's denominator is above 0
+divides : (c : Curve) (span top : ℕ) (t : List ℕ) (s : Source) → T (every (tests (record { curve = c; start = 0; span = span }) top t s))
+    → (n : ℕ) → T (inToe c (signal (record { curve = c; start = 0; span = span }) (whole n))) → 0 < toeValue c (signal (record { curve = c; start = 0; span = span }) (whole n)) .over
+divides logC4 span top t s ok n h = absurd h
+divides (logC3 c) span top t s ok n h = positive (c .e) span (divisor c 0 span top t s ok)
+  where
+    positive : (e span : ℕ) → 0 < e * span → 0 < 1 * 1 * (span - 0) * 1000000 * (e - 0)
+    positive e span h = rw (sub-zero, sub-zero) (omega arith)
+
+-- for the tolerance of the rules, which is above a half
+pub decoded-close : (s : Setting) → Valid s → (n : ℕ) → n ≤ topOf (s .width) → Close tolerance (scaleOf s) n (decoded s n)
+decoded-close s v n h =
+    part-close (tolerance .plus) (tolerance .over) (lit< tt) (scaleOf s) n (decoded s n) (inToe (curveOf s) (signal (scaleOf s) (whole n)))
+    (divides (curveOf s) (topOf (s .width)) (topOf (s .width)) (tableOf s) (sourceOf s) (passed s v) n) refl (decoding s v n h)

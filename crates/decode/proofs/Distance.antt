@@ -1,0 +1,124 @@
+-- How far apart two decoded numbers of one code may be; and so what is true of any numbers that the rules allow for the codes of a setting.
+-- Assumes nothing.
+use mathlib.Core.Path.{_≡_, refl, sym, ap, _∙_, subst, subst₂}
+use mathlib.Core.Bool.{Bool, true, false}
+use mathlib.Core.List.{List}
+use Prim.Native.Nat.{ℕ, suc, _+_, _-_, _*_, _^_, _≤_, _<_}
+use native.Mathlib.Nat.{le-of-lt, le-of-suc-le-suc, lt-of-le-of-lt, mul-pos, mul-le-mul-right, mul-lt-mul-of-pos-right, lt-of-mul-lt-mul-right, one-le-pow}
+use native.Mathlib.Omega.{arith}
+use lib.Dec.{T, lit<, lit≤}
+use lib.IntN.{ℤ, natAbs}
+use lib.Signed.{_<ℤ_}
+use Rattle.whole.specs.Parts.{up, dn}
+use Rattle.whole.proofs.Powers.{mul-pow}
+use Rattle.whole.proofs.Reflect.{at, abs-is, one-zero, ltZ-of, sub-dif}
+use Rattle.whole.proofs.Near.{Near}
+use Rattle.whole.proofs.Tests.{every}
+use Rattle.rules.specs.declared.Setting.{Setting}
+use Rattle.rules.specs.Setting.{topOf, curveOf, Valid}
+use Rattle.rules.specs.Fraction.{Fraction, ratio, whole, integer, _+ℚ_, _-ℚ_, _*ℚ_, VersusPower, cleared}
+use Rattle.rules.specs.Curve.{Curve, base, exponent, inToe}
+use Rattle.rules.specs.Exact.{Scale, signal, scaleOf, powerFor, VersusPart}
+use Rattle.rules.specs.Decoding.{unit, tolerance, Less, Greater, DecodesPart, DecodesWithin, Decodes}
+use Rattle.rules.proofs.Values.{less}
+use Rattle.curve_table.specs.Table.{tableOf}
+use Rattle.decode.specs.Decoded.{offset, raw, decoded}
+use Rattle.decode.proofs.Tests.{Source, tests, kappa, plus-less, minus-less}
+use Rattle.decode.proofs.Law.{base-pos}
+use Rattle.decode.proofs.Compare.{wanted-is, over-pos, power-over-pos, exponent-over-pos}
+use Rattle.decode.proofs.Settings.{sourceOf, passed}
+use Rattle.decode.proofs.Theorems.{decoding, raw-apart}
+use Rattle.decode.proofs.Limit.{raw-limited}
+
+-- ---- a fraction below a power is below a fraction above it
+between : (c o A B C D m p : ℕ) → 0 < c → 0 < o → 0 < B → A ^ o * c ^ m < c ^ p * B ^ o → c ^ p * D ^ o < C ^ o * c ^ m → A * D < C * B
+between c o A B C D m p pc po pB h g =
+    less .root o po
+    (less .over (c ^ m) (one-le-pow m c pc)
+    (lt-of-le-of-lt
+    (subst₂ (λ (x y : ℕ). x ≤ y) (left (A ^ o) (c ^ m) (D ^ o) ∙ ap (λ (w : ℕ). w * c ^ m) (sym (mul-pow A D o))) refl (mul-le-mul-right (D ^ o) (le-of-lt h)))
+    (subst₂ (λ (x y : ℕ). x < y) (left (c ^ p) (D ^ o) (B ^ o)) (left (C ^ o) (c ^ m) (B ^ o) ∙ ap (λ (w : ℕ). w * c ^ m) (sym (mul-pow C B o)))
+    (mul-lt-mul-of-pos-right {k = B ^ o} g (one-le-pow o B pB)))))
+  where
+    left : (x y z : ℕ) → x * y * z ≡ x * z * y
+    left x y z = omega arith
+
+versus : (x y : Fraction) (c : ℕ) (e : Fraction) → 0 < c → 0 < e .over → 0 < x .over → VersusPower Less x c e → VersusPower Greater y c e → (x .plus - x .minus) * y .over < (y .plus - y .minus) * x .over
+versus x y c e pc pe px (cleared h) (cleared g) = between c (e .over) (x .plus - x .minus) (x .over) (y .plus - y .minus) (y .over) (e .minus) (e .plus) pc pe px h g
+
+-- ---- of the powers that two values of one denominator want
+cut : (κ p m p′ m′ a c : ℕ) → p * κ + a - (m * κ + c) < p′ * κ + a - (m′ * κ + c) → p + m′ < p′ + m
+cut κ p m p′ m′ a c h = lt-of-mul-lt-mul-right κ (omega arith)
+
+-- two numbers, of which one less N / D is below the other with N / D
+apart : (N D b : ℕ) → 2 * N ≤ suc b * D → (u d u′ d′ : ℕ)
+    → (u * D + 0 * 1) * 1 + (d * D + N * 1) * 0 + ((u′ * D + N * 1) * 0 + (d′ * D + 0 * 1) * 1) < (u′ * D + N * 1) * 1 + (d′ * D + 0 * 1) * 0 + ((u * D + 0 * 1) * 0 + (d * D + N * 1) * 1)
+    → u + d′ ≤ u′ + d + b
+apart N D b small u d u′ d′ h = le-of-suc-le-suc (lt-of-mul-lt-mul-right D (omega arith))
+
+true-false : {A : Type 0} → true ≡ false → A
+true-false e = absurd (subst T e tt)
+
+power-of : (R : ℕ → ℕ → Type 0) (c : Curve) (t x : Fraction) (i : Bool) → i ≡ false → VersusPart R c t x i → VersusPower R (powerFor c x) (base c) (exponent c t)
+power-of R c t x true e v = true-false e
+power-of R c t x false e (VersusPart.power v) = v
+
+-- ---- numbers less than N / D from the exact value are at most b apart, where 2 * N / D is at most b + 1
+module _ (N D b : ℕ) (pD : 0 < D) (small : 2 * N ≤ suc b * D) (c : Curve) (start span top : ℕ) (t : List ℕ) (s : Source)
+    (ok : T (every (tests (record { curve = c; start = start; span = span }) top t s))) (n : ℕ) where
+  abbrev k : Scale
+  k = record { curve = c; start = start; span = span }
+
+  abbrev lo : ℤ → Fraction
+  lo y = (integer y -ℚ ratio N D) *ℚ unit
+
+  abbrev hi : ℤ → Fraction
+  hi y = (integer y +ℚ ratio N D) *ℚ unit
+
+  no-more : (y y′ : ℤ) → VersusPower Less (powerFor c (lo y)) (base c) (exponent c (signal k (whole n)))
+      → VersusPower Greater (powerFor c (hi y′)) (base c) (exponent c (signal k (whole n))) → up y + dn y′ ≤ up y′ + dn y + b
+  no-more y y′ l g =
+      apart N D b small (up y) (dn y) (up y′) (dn y′)
+      (cut (kappa k) (lo y .plus) (lo y .minus) (hi y′ .plus) (hi y′ .minus) (lo y .over * plus-less k) (lo y .over * minus-less k)
+      (subst₂ (λ (v w : ℕ). v < w) (wanted-is k (lo y)) (wanted-is k (hi y′))
+      (lt-of-mul-lt-mul-right (powerFor c (lo y) .over)
+      (versus (powerFor c (lo y)) (powerFor c (hi y′)) (base c) (exponent c (signal k (whole n))) (base-pos k top t s ok) (over-pos c start span n 1 (exponent-over-pos k top t s ok n 1 (lit< tt)))
+      (power-over-pos k top t s ok (lo y) (mul-pos (mul-pos (lit< tt) pD) (lit< tt)))
+      l
+      g))))
+
+  -- in the toe they are equal
+  in-part : (y y′ : ℤ) (i : Bool) → inToe c (signal k (whole n)) ≡ i → DecodesPart (ratio N D) k n y i → DecodesPart (ratio N D) k n y′ i → Near y y′ b
+  in-part y y′ true e (DecodesPart.toe p) (DecodesPart.toe q) = rw (p ∙ sym q) (record { high = omega arith; low = omega arith })
+  in-part y y′ false e (DecodesPart.power l g) (DecodesPart.power l′ g′) =
+      let part = inToe c (signal k (whole n)) in
+      record {
+        high = no-more y y′ (power-of Less c (signal k (whole n)) (lo y) part e l) (power-of Greater c (signal k (whole n)) (hi y′) part e g′);
+        low = no-more y′ y (power-of Less c (signal k (whole n)) (lo y′) part e l′) (power-of Greater c (signal k (whole n)) (hi y) part e g);
+      }
+
+  -- THE DISTANCE of two decoded numbers of a code
+  pub numbers-near : (y y′ : ℤ) → DecodesWithin (ratio N D) k n y → DecodesWithin (ratio N D) k n y′ → Near y y′ b
+  numbers-near y y′ = in-part y y′ (inToe c (signal k (whole n))) refl
+
+-- ---- of a valid setting, for any numbers that the rules allow
+
+-- they are at most one unit from the number that is computed
+pub decodes-near : (s : Setting) → Valid s → (n : ℕ) → n ≤ topOf (s .width) → (y : ℤ) → Decodes (scaleOf s) n y → Near y (decoded s n) 1
+decodes-near s v n h y p =
+    numbers-near (tolerance .plus) (tolerance .over) 1 (lit< tt) (lit≤ tt) (curveOf s) 0 (topOf (s .width)) (topOf (s .width)) (tableOf s) (sourceOf s) (passed s v) n y (decoded s n) p (decoding s v n h)
+
+-- they rise strictly with the code
+pub decodes-rises : (s : Setting) → Valid s → (m n : ℕ) → m < n → n ≤ topOf (s .width) → (x y : ℤ) → Decodes (scaleOf s) m x → Decodes (scaleOf s) n y → x <ℤ y
+decodes-rises s v m n h g x y p q =
+    ltZ-of (at x) (at y)
+    (omega (arith, decodes-near s v m (before h g) x p .high, decodes-near s v n g y q .low, sub-dif (raw s m) offset, sub-dif (raw s n) offset, raw-apart s v m n h g))
+  where
+    before : {t : ℕ} → m < n → n ≤ t → m ≤ t
+    before h g = omega arith
+
+-- and they are at most 2 ^ 33, without their sign
+pub decodes-small : (s : Setting) → Valid s → (n : ℕ) → n ≤ topOf (s .width) → (y : ℤ) → Decodes (scaleOf s) n y → natAbs y ≤ 2 ^ 33
+decodes-small s v n h y p =
+    let near = decodes-near s v n h y p in
+    omega (arith, abs-is y, one-zero y, near .high, near .low, sub-dif (raw s n) offset, raw-limited s v n h)

@@ -1,0 +1,26 @@
+-- What becomes of a record, from the answers of its checks.
+-- Assumes nothing.
+use mathlib.Core.Path.{_≡_, ap}
+use mathlib.Core.List.{List}
+use Prim.Native.Nat.{ℕ}
+use Rattle.rules.specs.declared.Check as check
+use Rattle.rules.specs.declared.Refusal.{Refusal}
+use Rattle.rules.specs.declared.Triple.{Triple}
+use Rattle.rules.specs.Setting.{settingCheck}
+use Rattle.rules.specs.Record.{settingOf}
+use Rattle.way_back.specs.Back.{pixelAces}
+use Rattle.rules.specs.Contents.{pixelIn}
+use Rattle.record_conversion.specs.Conversions.{pixelToAces}
+use Rattle.lister_line.specs.declared.Outcome.the-variants.{Aces, Refused}
+use Rattle.lister_text.specs.Listed.{outcomeOf}
+
+module _ (r : List ℕ) where
+  pub setting-refused : {why : Refusal} → settingCheck (settingOf r) ≡ check.Check.Refused why → Refused why ≡ outcomeOf r
+  setting-refused e = rw e
+
+  pub code-refused : {why : Refusal} → settingCheck (settingOf r) ≡ check.Check.Passed → pixelToAces .inner r ≡ check.Check.Refused why → Refused why ≡ outcomeOf r
+  code-refused e f = rw (e, f)
+
+  pub all-passed : {a : Triple} → settingCheck (settingOf r) ≡ check.Check.Passed → pixelToAces .inner r ≡ check.Check.Passed → a ≡ pixelAces (settingOf r) (pixelIn r)
+      → Aces a ≡ outcomeOf r
+  all-passed e f g = rw (e, f) (ap Aces g)

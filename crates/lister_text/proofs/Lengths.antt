@@ -1,0 +1,54 @@
+-- No record's line is longer than 66 bytes.
+-- Assumes nothing.
+use mathlib.Core.Path.{_≡_, refl}
+use mathlib.Core.List.{List}
+use Prim.Native.Nat.{ℕ, zero, suc, _+_, _*_, _^_, _≤_, _<_}
+use native.Mathlib.Omega.{arith}
+use lib.ListN.{length, take, drop, length-append}
+use Rattle.rules.specs.declared.Check.{Check}
+use Rattle.rules.specs.declared.Check as check
+use Rattle.rules.specs.Record.{codeBytes, settingOf, channelAt}
+use Rattle.rules.specs.Setting.{settingCheck, codeCheck}
+use Rattle.rules.specs.Strip.{recordCheck, records}
+use Rattle.rules.proofs.Settings.{code-passed, both}
+use Rattle.decode.specs.Decoded.{decoded}
+use Rattle.aces_inverse.specs.Given.{Given}
+use Rattle.aces_inverse.proofs.Inverse.{aces-small}
+use Rattle.aces.proofs.Theorems.{decoded-small}
+use Rattle.way_back.specs.Back.{pixelAces}
+use Rattle.rules.specs.Contents.{pixelIn}
+use Rattle.record_conversion.specs.Conversions.{pixelToAces}
+use Rattle.record_conversion.proofs.Channels.{all-pass}
+use Rattle.lister_line.specs.Line.{line, longest}
+use Rattle.lister_line.proofs.Lengths.{aces-long, refused-long}
+use Rattle.lister_text.specs.Listed.{outcomeOf, afterCheck, lines}
+
+-- the ACES numbers of a pixel are at most 2 ^ 38
+numbers-small : (r : List ℕ) → recordCheck pixelToAces r ≡ check.Check.Passed
+    → Given (pixelAces (settingOf r) (pixelIn r) .red .0) (pixelAces (settingOf r) (pixelIn r) .green .0) (pixelAces (settingOf r) (pixelIn r) .blue .0)
+numbers-small r e =
+    let s = settingOf r in
+    let b = both (settingCheck s) (pixelToAces .inner r) e in
+    let p = all-pass codeBytes (codeCheck s) r (b .1) in
+    let code : ℕ → ℕ = λ i. channelAt codeBytes r i in
+    aces-small s (decoded s (code 0)) (decoded s (code 1)) (decoded s (code 2))
+    (record {
+      red = decoded-small s (b .0) (code 0) (code-passed s (code 0) (p .red));
+      green = decoded-small s (b .0) (code 1) (code-passed s (code 1) (p .green));
+      blue = decoded-small s (b .0) (code 2) (code-passed s (code 2) (p .blue));
+    })
+    (record { red-is = refl; green-is = refl; blue-is = refl })
+
+-- NO LINE IS LONGER
+pub line-long : (k : ℕ) → k < 2 ^ 64 → (r : List ℕ) → length (line k (outcomeOf r)) ≤ longest
+line-long k h r = go (recordCheck pixelToAces r) refl
+  where
+    go : (x : Check) → recordCheck pixelToAces r ≡ x → length (line k (afterCheck x (pixelAces (settingOf r) (pixelIn r)))) ≤ longest
+    go check.Check.Passed e = let g = numbers-small r e in aces-long k h (pixelAces (settingOf r) (pixelIn r)) (g .red) (g .green) (g .blue)
+    go (check.Check.Refused why) e = refused-long k h why
+
+pub lines-long : (k n : ℕ) (s : List ℕ) → k + n < 2 ^ 64 → length (lines k (records 10 n s)) ≤ longest * n
+unfolding lines records
+lines-long k zero s h = omega arith
+lines-long k (suc n) s h =
+    rw length-append (omega (arith, line-long k (omega arith) (take 10 s), lines-long (suc k) n (drop 10 s) (omega arith)))

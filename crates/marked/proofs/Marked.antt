@@ -1,0 +1,167 @@
+-- The marked checks hold.
+-- Assumes nothing.
+use mathlib.Core.Bool.{Bool, true, false}
+use mathlib.Core.Logic.{_⊎_, inl, inr}
+use mathlib.Core.Path.{_≡_, refl, sym, ap, _∙_, subst}
+use Prim.Native.Nat.{ℕ, _^_, _≤_}
+use native.Mathlib.Nat.{le-refl, le-antisymm}
+use native.Mathlib.Omega.{arith}
+use borrow.Author.Tests.{eqb-true, eqb-false, ltb-true, ltb-false}
+use lib.Dec.{T, eqb, leb, ltb, lit<, lit≤}
+use lib.IntN.{ℤ, pos, negsuc, natAbs, _-ℤ_}
+use lib.Signed.{_<ℤ_}
+use Rattle.whole.specs.Parts.{up}
+use Rattle.whole.proofs.Reflect.{one-zero, abs-is, at, sub, dif, ltN-of}
+use Rattle.whole.proofs.Near.{near-test}
+use Rattle.whole.proofs.Tidy.{tidy}
+use Rattle.rules.specs.Fraction.{Fraction, whole, ratio, integer, _+ℚ_, _-ℚ_, _*ℚ_, VersusPower, nearest}
+use Rattle.rules.specs.declared.Setting.{Setting}
+use Rattle.rules.specs.Setting.{settingCheck, curveOf, topOf, Valid}
+use Rattle.rules.specs.Curve.{logC4, exponent, toeValue}
+use Rattle.rules.specs.Exact.{Scale, signal, scaleOf, powerFor, VersusPart}
+use Rattle.rules.specs.Decoding.{Less, Greater, Decodes, DecodesPart, tolerance, unit}
+use Rattle.rules.specs.Encoding.{IsNearest, sceneCheck}
+use Rattle.rules.specs.Float.{valueOf, floatCheck, unitsOf}
+use Rattle.rules.proofs.Values as values
+use Rattle.rules.proofs.Search.{Gives, equal3-same, none-found}
+use Rattle.rules.specs.Matrix.{minus, matrixOf, acesNumber}
+use Rattle.rules.specs.declared.Pixel.{Pixel}
+use Rattle.rules.specs.declared.Triple.{Triple}
+use Rattle.rules.specs.declared.Found.{Found}
+use Rattle.rules.specs.Refusal.{numberOfCheck}
+use Rattle.rules.specs.WayBack.{pixel, equal3, acesOf, pixelWith, foundCheck}
+use Rattle.rules.specs.Strip.{answerOf}
+use Rattle.decode.specs.Decoded.{decoded}
+use Rattle.decode.proofs.Distance.{decodes-rises, decodes-small}
+use Rattle.decode.proofs.Theorems.{decoding}
+use Rattle.encode.proofs.Theorems.{encode-near}
+use Rattle.aces_inverse.specs.Inverse.{candidate}
+use Rattle.way_back.specs.Candidate.{codeFor, candidatePixel}
+use Rattle.way_back.proofs.Only.{only-candidate-by}
+use Rattle.marked.specs.Marked.{Marked, setting, Allowed, limit, nextTriple}
+
+abbrev curve4 : Scale
+curve4 = scaleOf (setting 4 12 0)
+
+-- the exponent of code 4095 is 20
+abbrev exponent-4095 : Fraction
+exponent-4095 = exponent logC4 (signal curve4 (whole 4095))
+
+-- y - 1 is below the exact value, and y + 1 above it
+below-4095 : (y : ℤ) → VersusPower Less (powerFor logC4 ((integer y -ℚ tolerance) *ℚ unit)) 2 exponent-4095 → up y ≤ 7881936077
+below-4095 y h =
+    omega (arith, one-zero y, simp tidy at (values.at-whole values.less 2 (lit< tt) (powerFor logC4 ((integer y -ℚ tolerance) *ℚ unit)) exponent-4095 20 (lit< tt) (lit< tt) refl h))
+
+above-4095 : (y : ℤ) → VersusPower Greater (powerFor logC4 ((integer y +ℚ tolerance) *ℚ unit)) 2 exponent-4095 → 7881936076 ≤ up y
+above-4095 y h =
+    omega (arith, one-zero y, simp tidy at (values.at-whole (values.flip values.less) 2 (lit< tt) (powerFor logC4 ((integer y +ℚ tolerance) *ℚ unit)) exponent-4095 20 (lit< tt) (lit< tt) refl h))
+
+one-of-two : (y : ℤ) → up y ≤ 7881936077 → 7881936076 ≤ up y → (y ≡ pos 7881936076) ⊎ (y ≡ pos 7881936077)
+one-of-two (pos n) h g = go (eqb n 7881936076) refl
+  where
+    go : (x : Bool) → eqb n 7881936076 ≡ x → (pos n ≡ pos 7881936076) ⊎ (pos n ≡ pos 7881936077)
+    go true e = inl (ap pos (eqb-true n 7881936076 e))
+    go false e = inr (ap pos (other (eqb-false n 7881936076 e)))
+      where
+        other : (n ≡ 7881936076 → ⊥) → n ≡ 7881936077
+        other k = omega arith
+one-of-two (negsuc n) h g = absurd (omega arith)
+
+code-4095-units : (y : ℤ) → Decodes curve4 4095 y → (y ≡ pos 7881936076) ⊎ (y ≡ pos 7881936077)
+code-4095-units y (DecodesPart.power (VersusPart.power l) (VersusPart.power h)) = one-of-two y (below-4095 y l) (above-4095 y h)
+
+code-4095 : VersusPart (λ m n. m ≡ n) logC4 (signal curve4 (whole 4095)) (ratio 2349 5) false
+code-4095 = VersusPart.power (values.of-whole values.equal 2 (lit< tt) (powerFor logC4 (ratio 2349 5)) exponent-4095 20 (lit< tt) (lit< tt) refl refl)
+
+-- ---- curve 3, width 12, EI 800
+abbrev s800 : Setting
+s800 = setting 3 12 800
+
+-- the number of a code in the toe
+toe-number : (n : ℕ) (y : ℤ) → DecodesPart tolerance (scaleOf s800) n y true → y ≡ nearest (toeValue (curveOf s800) (signal (scaleOf s800) (whole n)) *ℚ whole (2 ^ 24))
+toe-number n y (DecodesPart.toe e) = e
+
+-- ---- scene 2^40
+-- of a number that is not below the top code's no other code is nearer than the top
+scene-limit : (s : Setting) → Valid s → (number : ℕ → ℤ) → Allowed s number → (n : ℕ) → IsNearest number (topOf (s .width)) (pos limit) n → n ≡ topOf (s .width)
+scene-limit s v number allowed n i = go (ltb n top) refl
+  where
+    top : ℕ
+    top = topOf (s .width)
+
+    farther : (x y : ℤ) → x <ℤ y → natAbs y ≤ 2 ^ 33 → natAbs (pos limit -ℤ x) ≤ natAbs (pos limit -ℤ y) → ⊥
+    farther x y h g l =
+        omega (arith, ltN-of (at x) (at y) h, abs-is y, abs-is (pos limit -ℤ x), abs-is (pos limit -ℤ y), dif (sub (at (pos limit)) (at x)), dif (sub (at (pos limit)) (at y)), one-zero (pos limit -ℤ y))
+
+    go : (x : Bool) → ltb n top ≡ x → n ≡ top
+    go true e =
+        absurd
+        (farther (number n) (number top)
+        (decodes-rises s v n top (ltb-true n top e) (le-refl top) (number n) (number top) (allowed n (i .in-range)) (allowed top (le-refl top)))
+        (decodes-small s v top (le-refl top) (number top) (allowed top (le-refl top)))
+        (i .nearest top (le-refl top)))
+    go false e = le-antisymm (i .in-range) (ltb-false n top e)
+
+-- ---- the triple next to that of pixel 0, 0, 0
+valid-800 : Valid s800
+unfolding settingCheck
+valid-800 = refl
+
+decoded-0 : decoded s800 0 ≡ minus 290085
+decoded-0 = toe-number 0 (decoded s800 0) (decoding s800 valid-800 0 (lit≤ tt))
+
+-- a candidate near the number of code 0
+near-0 : (i : ℕ) → T (leb (natAbs (candidate s800 i (nextTriple .red .0) (nextTriple .green .0) (nextTriple .blue .0) -ℤ minus 290085)) 13) → codeFor s800 i nextTriple ≡ 0
+near-0 i t =
+    let c = candidate s800 i (nextTriple .red .0) (nextTriple .green .0) (nextTriple .blue .0) in
+    encode-near s800 valid-800 c 0 (lit≤ tt) (rw decoded-0 (near-test c (minus 290085) 13 t))
+
+first-pixel : candidatePixel s800 nextTriple ≡ pixel 0 0 0
+unfolding acesNumber
+first-pixel =
+    let r = near-0 0 tt in
+    let g = near-0 1 tt in
+    let b = near-0 2 tt in
+    λ i. record { red = record { 0 = r i }; green = record { 0 = g i }; blue = record { 0 = b i } }
+
+module _ (number : ℕ → ℤ) (allowed : Allowed s800 number) where
+  -- it gives another triple
+  first-gives : equal3 nextTriple (acesOf number (matrixOf s800) (pixel 0 0 0)) ≡ false
+  unfolding acesNumber equal3
+  first-gives = rw (toe-number 0 (number 0) (allowed 0 (lit≤ tt)))
+
+  -- and no other pixel can give this one
+  never : (q : Pixel) → Gives number (matrixOf s800) (topOf 12) nextTriple q → ⊥
+  never q g =
+      let e : q ≡ pixel 0 0 0 = only-candidate-by s800 valid-800 number allowed nextTriple q g ∙ first-pixel in
+      let f : equal3 nextTriple (acesOf number (matrixOf s800) q) ≡ true = ap (λ (a : Triple). equal3 nextTriple a) (sym (g .numbers)) ∙ equal3-same nextTriple in
+      absurd (subst T (sym f ∙ ap (λ (p : Pixel). equal3 nextTriple (acesOf number (matrixOf s800) p)) e ∙ first-gives) tt)
+
+  no-pixel : numberOfCheck (foundCheck (pixelWith number (matrixOf s800) (topOf 12) nextTriple)) ≡ 10
+  no-pixel = ap (λ (f : Found). numberOfCheck (foundCheck f)) (none-found number (matrixOf s800) (topOf 12) nextTriple never)
+
+-- THE LIST
+pub marked : Marked
+unfolding settingCheck sceneCheck floatCheck unitsOf valueOf acesNumber answerOf
+marked =
+    record {
+      code-4095 = code-4095;
+      code-4095-units = code-4095-units;
+      code-0 = toe-number 0;
+      code-100 = toe-number 100;
+      pixel-100 = λ x y h g. rw (toe-number 100 x h, toe-number 0 y g) (record { red-is = refl; green-is = refl; blue-is = refl });
+      code-612 = refl;
+      code-613 = refl;
+      ei-800 = refl;
+      ei-2000 = refl;
+      code-1023 = refl;
+      code-1024 = refl;
+      partial-record = refl;
+      eleven-bytes = λ input output e. (rw e, rw e);
+      scene-limit = scene-limit;
+      scene-limit-passes = refl;
+      scene-past-limit = refl;
+      no-pixel = no-pixel;
+      float-half = (refl, refl);
+      float-minus-half = (refl, refl);
+    }

@@ -1,0 +1,75 @@
+-- `write_record` meets its contract: the value names the conversion.
+-- Assumes nothing.
+use mathlib.Core.Path.{sym, ap, _∙_}
+use denote.Ref.{now}
+use borrow.Author.Needs.{needs}
+use Rattle.rules.specs.declared.Setting.{Setting}
+use Rattle.rules.specs.Setting.{codeCheck}
+use Rattle.rules.specs.WayBack.{foundCheck}
+use Rattle.way_back.specs.Back.{pixelAces, pixelFor}
+use Rattle.record_conversion.specs.declared.Kind.{Kind}
+use Rattle.rules.specs.Contents.{pixelIn, tripleIn, pixelRecord, acesRecord}
+use Rattle.record_conversion.specs.Conversions.{channelChecks, eachChannel, sceneBits, codeBits, numberCheck, pixelFound, conversionOf}
+use Rattle.record_conversion.proofs.write_record.Statement.{statement}
+use Rattle.record_conversion.proofs.write_record.Tie as tie
+
+write-scene-requires : tie.Need-write-scene-requires
+write-scene-requires c κs =
+    let p = c .before .before .before .before .before .pre in
+    let told = c .before .enum-told .given .1 in
+    let r = now (c .before .before .before .before .before .args .r) in
+    (p .0, (p .1 .0 .1 ∙ ap (λ (x : Kind). conversionOf x .from) told, (ap (λ (s : Setting). channelChecks 2 (codeCheck s) r) (p .1 .0 .0) ∙ sym (ap (λ (x : Kind). conversionOf x .inner r) told) ∙ p .1 .0 .2, p .1 .1 ∙ ap (λ (x : Kind). conversionOf x .to) told)))
+
+write-pixel-requires : tie.Need-write-pixel-requires
+write-pixel-requires c κs =
+    let p = c .before .before .before .before .before .pre in
+    let told = c .before .enum-told2 .given .1 in
+    let r = now (c .before .before .before .before .before .args .r) in
+    (p .0, (p .1 .0 .1 ∙ ap (λ (x : Kind). conversionOf x .from) told, (ap (λ (s : Setting). channelChecks 8 (numberCheck s) r) (p .1 .0 .0) ∙ sym (ap (λ (x : Kind). conversionOf x .inner r) told) ∙ p .1 .0 .2, p .1 .1 ∙ ap (λ (x : Kind). conversionOf x .to) told)))
+
+write-triple-requires : tie.Need-write-triple-requires
+write-triple-requires c κs =
+    let p = c .before .before .before .before .before .pre in
+    let told = c .before .enum-told3 .given .1 in
+    let r = now (c .before .before .before .before .before .args .r) in
+    (p .0, (p .1 .0 .1 ∙ ap (λ (x : Kind). conversionOf x .from) told, (ap (λ (s : Setting). channelChecks 2 (codeCheck s) r) (p .1 .0 .0) ∙ sym (ap (λ (x : Kind). conversionOf x .inner r) told) ∙ p .1 .0 .2, p .1 .1 ∙ ap (λ (x : Kind). conversionOf x .to) told)))
+
+write-back-requires : tie.Need-write-back-requires
+write-back-requires c κs =
+    let p = c .before .before .before .before .before .pre in
+    let told = c .before .enum-told4 .given .1 in
+    let r = now (c .before .before .before .before .before .args .r) in
+    (p .0, (p .1 .0 .1 ∙ ap (λ (x : Kind). conversionOf x .from) told, (ap (λ (s : Setting). foundCheck (pixelFor s (tripleIn r))) (p .1 .0 .0) ∙ sym (ap (λ (x : Kind). conversionOf x .inner r) told) ∙ p .1 .0 .2, p .1 .1 ∙ ap (λ (x : Kind). conversionOf x .to) told)))
+
+returns : tie.Need-returns
+returns c =
+    let r = now (c .before .before .before .before .before .before .before .before .args .r) in
+    c .before .before .write-scene .ensures
+    ∙ ap (λ (s : Setting). eachChannel 2 8 s (sceneBits s) r) (c .before .before .before .before .before .before .before .before .pre .1 .0 .0)
+    ∙ sym (ap (λ (x : Kind). conversionOf x .bytes r) (c .before .before .before .before .enum-told .given .1))
+
+returns-2 : tie.Need-returns-2
+returns-2 c =
+    let r = now (c .before .before .before .before .before .before .before .before .args .r) in
+    c .before .before .write-pixel .ensures
+    ∙ ap (λ (s : Setting). eachChannel 8 2 s (codeBits s) r) (c .before .before .before .before .before .before .before .before .pre .1 .0 .0)
+    ∙ sym (ap (λ (x : Kind). conversionOf x .bytes r) (c .before .before .before .before .enum-told2 .given .1))
+
+returns-3 : tie.Need-returns-3
+returns-3 c =
+    let r = now (c .before .before .before .before .before .before .before .before .args .r) in
+    c .before .before .write-triple .ensures
+    ∙ ap (λ (s : Setting). acesRecord s (pixelAces s (pixelIn r))) (c .before .before .before .before .before .before .before .before .pre .1 .0 .0)
+    ∙ sym (ap (λ (x : Kind). conversionOf x .bytes r) (c .before .before .before .before .enum-told3 .given .1))
+
+returns-4 : tie.Need-returns-4
+returns-4 c =
+    let r = now (c .before .before .before .before .before .before .before .before .args .r) in
+    c .before .before .write-back .ensures
+    ∙ ap (λ (s : Setting). pixelRecord s (pixelFound (pixelFor s (tripleIn r)))) (c .before .before .before .before .before .before .before .before .pre .1 .0 .0)
+    ∙ sym (ap (λ (x : Kind). conversionOf x .bytes r) (c .before .before .before .before .enum-told4 .given .1))
+
+pub write-record-spec : {M : Type 1} → statement M
+write-record-spec =
+    tie.close
+    (tie.spec (λ c. search needs) write-scene-requires (λ c. search needs) write-pixel-requires (λ c. search needs) write-triple-requires (λ c. search needs) write-back-requires (λ c. search needs) returns (λ c. search needs) returns-2 (λ c. search needs) returns-3 (λ c. search needs) returns-4)

@@ -1,0 +1,46 @@
+// ACES records: what is written for a pixel record, and for an ACES record on the way back.
+ghost use mathlib.Core.Path.{_≡_};
+ghost use lib.ListN.{length};
+ghost use Rattle.rules.specs.declared.Check.the-variants.{Passed};
+ghost use Rattle.rules.specs.Setting.{codeCheck};
+ghost use Rattle.rules.specs.WayBack.{foundCheck};
+ghost use Rattle.decode.specs.Ready.{Ready};
+ghost use Rattle.way_back.specs.Back.{pixelAces, pixelFor};
+ghost use Rattle.rules.specs.Contents.{pixelIn, pixelRecord, tripleIn, acesRecord};
+ghost use Rattle.record_conversion.specs.Conversions.{channelChecks, pixelFound};
+use decode::decoder::Decoder;
+use rules::Check;
+use rules::Setting;
+
+// What is written for a pixel record: its ACES record.
+pub fn write_triple(s: Setting, d: Decoder, t: &[u64; 128], r: &[u8], out: &mut [u8])
+    requires { ⌜ Ready s d (now t) ⌝ }
+    requires { ⌜ length (now r) ≡ 10 ⌝ }
+    requires { ⌜ channelChecks 2 (codeCheck s) (now r) ≡ Passed ⌝ }
+    requires { ⌜ length (now out) ≡ 28 ⌝ }
+    ensures { λ _. ⌜ now (out .exit) ≡ acesRecord s (pixelAces s (pixelIn (now (r .entry)))) ⌝ }
+{
+    let a = way_back::to_aces(s, d, t, records::pixel_in(r));
+    records::put_aces(out, s, a);
+}
+
+// The check of an ACES record: refusal 10.
+pub fn check_triple(s: Setting, d: Decoder, t: &[u64; 128], r: &[u8]) -> Check
+    requires { ⌜ Ready s d (now t) ⌝ }
+    requires { ⌜ length (now r) ≡ 28 ⌝ }
+    ensures { λ x. ⌜ x ≡ foundCheck (pixelFor s (tripleIn (now (r .entry)))) ⌝ }
+{
+    way_back::check_aces(s, d, t, records::triple_in(r))
+}
+
+// What is written for an ACES record that passes: the record of the pixel that gives it.
+pub fn write_back(s: Setting, d: Decoder, t: &[u64; 128], r: &[u8], out: &mut [u8])
+    requires { ⌜ Ready s d (now t) ⌝ }
+    requires { ⌜ length (now r) ≡ 28 ⌝ }
+    requires { ⌜ foundCheck (pixelFor s (tripleIn (now r))) ≡ Passed ⌝ }
+    requires { ⌜ length (now out) ≡ 10 ⌝ }
+    ensures { λ _. ⌜ now (out .exit) ≡ pixelRecord s (pixelFound (pixelFor s (tripleIn (now (r .entry))))) ⌝ }
+{
+    let p = way_back::pixel_of(s, d, t, records::triple_in(r));
+    records::put_pixel(out, s, p);
+}

@@ -1,0 +1,76 @@
+// The conversions of one record: what each checks of it after its setting's checks, and what it writes for it.
+ghost use mathlib.Core.Path.{_≡_};
+ghost use Prim.Native.Nat.{_<_};
+ghost use lib.ListN.{length};
+ghost use Rattle.rules.specs.declared.Check.the-variants.{Passed};
+ghost use Rattle.rules.specs.Record.{settingOf};
+ghost use Rattle.decode.specs.Ready.{Ready};
+ghost use Rattle.record_conversion.specs.Conversions.{conversionOf};
+
+mod aces;
+mod pixel;
+mod scene;
+
+use decode::decoder::Decoder;
+use rules::Check;
+use rules::Setting;
+
+// Which conversion.
+pub enum Kind {
+    PixelToScene,
+    SceneToPixel,
+    PixelToAces,
+    AcesToPixel,
+}
+
+// The bytes of a record, and of what is written for one.
+pub fn size_from(k: Kind) -> usize
+    ensures { λ r. ⌜ (r ≡ conversionOf k .from) × (0 < r) × (r < 100) ⌝ }
+{
+    match k {
+        Kind::PixelToScene => 10,
+        Kind::SceneToPixel => 28,
+        Kind::PixelToAces => 10,
+        Kind::AcesToPixel => 28,
+    }
+}
+
+pub fn size_to(k: Kind) -> usize
+    ensures { λ r. ⌜ (r ≡ conversionOf k .to) × (0 < r) × (r < 100) ⌝ }
+{
+    match k {
+        Kind::PixelToScene => 28,
+        Kind::SceneToPixel => 10,
+        Kind::PixelToAces => 28,
+        Kind::AcesToPixel => 10,
+    }
+}
+
+// The checks of a record after its setting's.
+pub fn check_inner(k: Kind, s: Setting, d: Decoder, t: &[u64; 128], r: &[u8]) -> Check
+    requires { ⌜ Ready s d (now t) ⌝ }
+    requires { ⌜ (s ≡ settingOf (now r)) × (length (now r) ≡ conversionOf k .from) ⌝ }
+    ensures { λ x. ⌜ x ≡ conversionOf k .inner (now (r .entry)) ⌝ }
+{
+    match k {
+        Kind::PixelToScene => pixel::check_codes(s, r),
+        Kind::SceneToPixel => scene::check_numbers(s, r),
+        Kind::PixelToAces => pixel::check_codes(s, r),
+        Kind::AcesToPixel => aces::check_triple(s, d, t, r),
+    }
+}
+
+// What is written for a record that passes.
+pub fn write_record(k: Kind, s: Setting, d: Decoder, t: &[u64; 128], r: &[u8], out: &mut [u8])
+    requires { ⌜ Ready s d (now t) ⌝ }
+    requires { ⌜ (s ≡ settingOf (now r)) × (length (now r) ≡ conversionOf k .from) × (conversionOf k .inner (now r) ≡ Passed) ⌝ }
+    requires { ⌜ length (now out) ≡ conversionOf k .to ⌝ }
+    ensures { λ _. ⌜ now (out .exit) ≡ conversionOf k .bytes (now (r .entry)) ⌝ }
+{
+    match k {
+        Kind::PixelToScene => pixel::write_scene(s, d, t, r, out),
+        Kind::SceneToPixel => scene::write_pixel(s, d, t, r, out),
+        Kind::PixelToAces => aces::write_triple(s, d, t, r, out),
+        Kind::AcesToPixel => aces::write_back(s, d, t, r, out),
+    }
+}

@@ -1,0 +1,65 @@
+// Pixel records: the checks of their codes, and what is written for one.
+ghost use mathlib.Core.Path.{_≡_};
+ghost use Prim.Native.Nat.{_+_, _<_};
+ghost use lib.ListN.{length, take, drop};
+ghost use Rattle.rules.specs.declared.Check.the-variants.{Passed};
+ghost use Rattle.rules.specs.Record.{value};
+ghost use Rattle.rules.specs.Setting.{codeCheck, Valid};
+ghost use Rattle.decode.specs.Decoded.{decoded};
+ghost use Rattle.decode.specs.Ready.{Ready};
+ghost use Rattle.record_conversion.specs.Conversions.{channelChecks, eachChannel, sceneBits};
+use decode::decoder::Decoder;
+use rules::Check;
+use rules::Code;
+use rules::Scene;
+use rules::Setting;
+
+// The check of the code at a place of the record.
+fn check_at(s: Setting, r: &[u8], at: usize) -> Check
+    requires { ⌜ Valid s ⌝ }
+    requires { ⌜ at + 1 < length (now r) ⌝ }
+    ensures { λ x. ⌜ x ≡ codeCheck s (value (take 2 (drop at (now (r .entry))))) ⌝ }
+{
+    setting::check_code(s, Code(little_endian::word_at(r, at)))
+}
+
+// The checks of the three codes of a record.
+pub fn check_codes(s: Setting, r: &[u8]) -> Check
+    requires { ⌜ Valid s ⌝ }
+    requires { ⌜ length (now r) ≡ 10 ⌝ }
+    ensures { λ x. ⌜ x ≡ channelChecks 2 (codeCheck s) (now (r .entry)) ⌝ }
+{
+    let red = check_at(s, r, 4);
+    let Check::Passed = red else {
+        return red;
+    };
+    let green = check_at(s, r, 6);
+    let Check::Passed = green else {
+        return green;
+    };
+    check_at(s, r, 8)
+}
+
+// The scene number of the code at a place of the record.
+fn scene_at(s: Setting, d: Decoder, t: &[u64; 128], r: &[u8], at: usize) -> Scene
+    requires { ⌜ Ready s d (now t) ⌝ }
+    requires { ⌜ at + 1 < length (now r) ⌝ }
+    requires { ⌜ codeCheck s (value (take 2 (drop at (now r)))) ≡ Passed ⌝ }
+    ensures { λ y. ⌜ y .0 ≡ decoded s (value (take 2 (drop at (now (r .entry))))) ⌝ }
+{
+    d.scene(t, Code(little_endian::word_at(r, at)))
+}
+
+// What is written for a record: its setting and scene numbers.
+pub fn write_scene(s: Setting, d: Decoder, t: &[u64; 128], r: &[u8], out: &mut [u8])
+    requires { ⌜ Ready s d (now t) ⌝ }
+    requires { ⌜ length (now r) ≡ 10 ⌝ }
+    requires { ⌜ channelChecks 2 (codeCheck s) (now r) ≡ Passed ⌝ }
+    requires { ⌜ length (now out) ≡ 28 ⌝ }
+    ensures { λ _. ⌜ now (out .exit) ≡ eachChannel 2 8 s (sceneBits s) (now (r .entry)) ⌝ }
+{
+    let red = scene_at(s, d, t, r, 4);
+    let green = scene_at(s, d, t, r, 6);
+    let blue = scene_at(s, d, t, r, 8);
+    records::put_scene(out, s, red, green, blue);
+}

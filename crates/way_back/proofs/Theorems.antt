@@ -1,0 +1,62 @@
+-- DEMAND 3 of one record: the way back finds a pixel of the setting exactly where one gives the numbers, and it is the only one.
+-- Assumes nothing.
+use mathlib.Core.Path.{_≡_, refl, sym, ap, _∙_, subst}
+use Prim.Native.Nat.{ℕ}
+use Rattle.rules.specs.declared.Pixel.{Pixel}
+use Rattle.rules.specs.declared.Setting.{Setting}
+use Rattle.rules.specs.declared.Triple.{Triple}
+use Rattle.rules.specs.declared.Found.{Found}
+use Rattle.rules.specs.declared.Found as found
+use Rattle.rules.specs.Setting.{topOf, Valid}
+use Rattle.rules.specs.Matrix.{matrixOf}
+use Rattle.rules.specs.WayBack.{IsPixel}
+use Rattle.rules.proofs.Search as search
+use Rattle.rules.proofs.Settings.{code-passed, code-passes}
+use Rattle.decode.specs.Decoded.{decoded}
+use Rattle.way_back.specs.Back.{pixelAces, pixelFor}
+use Rattle.way_back.specs.Candidate.{candidatePixel}
+use Rattle.way_back.proofs.Only.{PixelGives, only-candidate}
+
+-- as the rules' words say it
+to-gives : (s : Setting) (a : Triple) (p : Pixel) → IsPixel s p → pixelAces s p ≡ a → PixelGives s a p
+to-gives s a p i e =
+    record {
+      red = code-passed s (p .red .0) (i .red);
+      green = code-passed s (p .green .0) (i .green);
+      blue = code-passed s (p .blue .0) (i .blue);
+      numbers = sym e;
+    }
+
+-- what is found is a pixel of the setting that gives the numbers
+pub found-gives : (s : Setting) (a : Triple) (p : Pixel) → pixelFor s a ≡ found.Found.Pixel p → IsPixel s p × (pixelAces s p ≡ a)
+unfolding pixelFor
+found-gives s a p e =
+    let g = search.found-gives (decoded s) (matrixOf s) (topOf (s .width)) a p e in (
+      record { red = code-passes s (p .red .0) (g .red); green = code-passes s (p .green .0) (g .green); blue = code-passes s (p .blue .0) (g .blue) },
+      sym (g .numbers),
+    )
+
+module _ (s : Setting) (v : Valid s) where
+  -- two pixels with the same ACES numbers are one
+  pub one-pixel : (p q : Pixel) → IsPixel s p → IsPixel s q → pixelAces s p ≡ pixelAces s q → p ≡ q
+  one-pixel p q i j e =
+      only-candidate s v (pixelAces s q) p (to-gives s (pixelAces s q) p i e) ∙ sym (only-candidate s v (pixelAces s q) q (to-gives s (pixelAces s q) q j refl))
+
+  -- a pixel is found from its own ACES numbers
+  pub own-found : (p : Pixel) → IsPixel s p → pixelFor s (pixelAces s p) ≡ found.Found.Pixel p
+  unfolding pixelFor
+  own-found p i =
+      search.gives-found (decoded s) (matrixOf s) (topOf (s .width)) (pixelAces s p) p
+      (λ q g. only-candidate s v (pixelAces s p) q g ∙ sym (only-candidate s v (pixelAces s p) p (to-gives s (pixelAces s p) p i refl)))
+      (to-gives s (pixelAces s p) p i refl)
+
+  -- nothing is found exactly where no pixel gives the numbers
+  pub nothing-gives : (a : Triple) → pixelFor s a ≡ found.Found.Nothing → (p : Pixel) → IsPixel s p → pixelAces s p ≡ a → ⊥
+  nothing-gives a e p i g = search.not-nothing (sym e ∙ ap (pixelFor s) (sym g) ∙ own-found p i)
+
+  pub nothing-found : (a : Triple) → ((p : Pixel) → IsPixel s p → pixelAces s p ≡ a → ⊥) → pixelFor s a ≡ found.Found.Nothing
+  nothing-found a never = go (pixelFor s a) refl
+    where
+      go : (f : Found) → pixelFor s a ≡ f → f ≡ found.Found.Nothing
+      go (found.Found.Pixel p) e = let g = found-gives s a p e in absurd (never p (g .0) (g .1))
+      go found.Found.Nothing e = refl

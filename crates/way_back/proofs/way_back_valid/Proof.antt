@@ -1,0 +1,17 @@
+-- `way_back_valid` meets its contract.
+-- Assumes nothing.
+use mathlib.Core.Path.{sym, _∙_}
+use borrow.Author.Needs.{needs}
+use Rattle.way_back.proofs.way_back_valid.Statement.{statement}
+use Rattle.way_back.proofs.way_back_valid.Tie as tie
+
+returns : tie.Need-returns
+returns c = rw (sym (c .before .before .before .find .ensures) ∙ c .before .p .given .1)
+
+returns-2 : tie.Need-returns-2
+returns-2 c = rw (sym (c .before .before .find .ensures) ∙ c .enum-told .given .1)
+
+pub way-back-valid-spec : {M : Type 1} → statement M
+way-back-valid-spec =
+    tie.close
+    (tie.spec (λ c κs. search needs) (λ c κs. search needs) (λ c κs. search needs) (λ c. search needs) (λ c. search needs) returns returns-2)
