@@ -3,12 +3,17 @@ ghost use mathlib.Core.Path.{_≡_};
 ghost use Prim.Native.Nat.{_^_};
 ghost use Rattle.rules.specs.Fraction.{integer, whole, _/ℚ_, nearest};
 ghost use Rattle.rules.specs.Matrix.{logC3Matrix, logC4Matrix, matrixOf, IsAces};
+ghost use Rattle.rules.specs.Pixels.{IsPixel};
+ghost use Rattle.decode.specs.Ready.{Ready};
 ghost use Rattle.row_product.specs.Row.{Number, Sum};
 ghost use Rattle.aces.specs.Joined.{joined};
+ghost use Rattle.aces.specs.OfPixel.{pixelAces};
 
 mod entries;
 
+use decode::decoder::Decoder;
 use rules::Aces;
+use rules::Pixel;
 use rules::Scene;
 use rules::Setting;
 use rules::Triple;
@@ -79,4 +84,16 @@ pub fn aces(s: Setting, x: Scene, y: Scene, z: Scene) -> Triple
     } else {
         aces_c4(x, y, z)
     }
+}
+
+// The ACES numbers of a pixel.
+pub fn of_pixel(s: Setting, d: Decoder, t: &[u64; 128], p: Pixel) -> Triple
+    requires { ⌜ Ready s d (now t) ⌝ }
+    requires { ⌜ IsPixel s p ⌝ }
+    ensures { λ a. ⌜ a ≡ pixelAces s p ⌝ }
+{
+    let x = d.scene(t, p.red);
+    let y = d.scene(t, p.green);
+    let z = d.scene(t, p.blue);
+    aces(s, x, y, z)
 }

@@ -8,10 +8,10 @@ use Rattle.rules.specs.declared.Refusal.{Refusal}
 use Rattle.rules.specs.declared.Triple.{Triple}
 use Rattle.rules.specs.Setting.{settingCheck}
 use Rattle.rules.specs.Record.{settingOf, pixelIn}
-use Rattle.way_back.specs.Back.{pixelAces}
 use Rattle.record_conversion.specs.Conversions.{pixelToAces}
 use Rattle.rules.specs.declared.Outcome.the-variants.{Aces, Refused}
 use Rattle.lister_text.specs.Listed.{outcomeOf}
+use Rattle.aces.specs.OfPixel.{pixelAces}
 
 module _ (r : List ℕ) where
   pub setting-refused : {why : Refusal} → settingCheck (settingOf r) ≡ check.Check.Refused why → Refused why ≡ outcomeOf r

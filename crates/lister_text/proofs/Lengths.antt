@@ -15,13 +15,13 @@ use Rattle.decode.specs.Decoded.{decoded}
 use Rattle.aces_inverse.specs.Given.{Given}
 use Rattle.aces_inverse.proofs.Inverse.{aces-small}
 use Rattle.aces.proofs.Theorems.{decoded-small}
-use Rattle.way_back.specs.Back.{pixelAces}
 use Rattle.record_conversion.specs.Conversions.{pixelToAces}
 use Rattle.record_conversion.proofs.Channels.{all-pass}
 use Rattle.lister_line.specs.Line.{longest}
 use Rattle.lister_line.proofs.Lengths.{aces-long, refused-long}
 use Rattle.lister_text.specs.Listed.{outcomeOf, lines}
 use Rattle.rules.specs.Lister.{line, afterCheck, linesBy}
+use Rattle.aces.specs.OfPixel.{pixelAces}
 
 -- the ACES numbers of a pixel are at most 2 ^ 38
 numbers-small : (r : List ℕ) → recordCheck pixelToAces r ≡ check.Check.Passed

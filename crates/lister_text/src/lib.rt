@@ -31,7 +31,7 @@ fn judge_valid(s: Setting, r: &[u8]) -> Outcome
     let t = curve_table::table(s);
     match record_conversion::check_inner(Kind::PixelToAces, s, d, &t, r) {
         Check::Refused(cause) => Outcome::Refused(cause),
-        Check::Passed => Outcome::Aces(way_back::to_aces(s, d, &t, records::pixel_in(r))),
+        Check::Passed => Outcome::Aces(aces::of_pixel(s, d, &t, records::pixel_in(r))),
     }
 }
 

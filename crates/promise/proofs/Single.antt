@@ -31,7 +31,7 @@ use Rattle.decode.specs.Decoded.{decoded}
 use Rattle.aces_inverse.specs.Given.{Small3, Given}
 use Rattle.aces_inverse.proofs.Inverse.{aces-small}
 use Rattle.aces.proofs.Theorems.{decoded-small}
-use Rattle.way_back.specs.Back.{pixelAces, pixelFor}
+use Rattle.way_back.specs.Back.{pixelFor}
 use Rattle.way_back.proofs.Theorems.{found-gives, own-found, one-pixel}
 use Rattle.record_conversion.specs.Conversions.{pixelToAces, acesToPixel}
 use Rattle.record_conversion.proofs.Channels.{codes-pixel}
@@ -39,6 +39,7 @@ use Rattle.record_conversion.proofs.Good.{Good}
 use Rattle.promise.specs.Words.{given, HoldsPixel, Without, OnlyPixel, refusalOf}
 use Rattle.rules.specs.Pixels.{IsPixel}
 use Rattle.rules.specs.Conversions.{channelChecks, pixelFound}
+use Rattle.aces.specs.OfPixel.{pixelAces}
 
 -- ---- numbers in eight bytes
 below : (x : ℤ) → natAbs x ≤ 2 ^ 38 → (2 * up x < 256 ^ 8) × (2 * dn x ≤ 256 ^ 8)

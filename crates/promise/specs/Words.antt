@@ -20,8 +20,8 @@ use Rattle.rules.specs.Record.{IsBytes, numberBytes, ofBits, settingOf, channel
 use Rattle.rules.specs.Conversions.{pixelToAces}
 use Rattle.rules.specs.Strip.{records, recordAt, written}
 use Rattle.decode.specs.Decoded.{decoded}
-use Rattle.way_back.specs.Back.{pixelAces}
 use Rattle.rules.specs.Pixels.{IsPixel, codes}
+use Rattle.aces.specs.OfPixel.{pixelAces}
 
 -- "It gives the ACES record that holds this setting and the pixel's three ACES numbers."
 abbrev pub given : Setting → Pixel → List ℕ

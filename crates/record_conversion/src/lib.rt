@@ -7,7 +7,7 @@ ghost use Rattle.rules.specs.Record.{settingOf};
 ghost use Rattle.decode.specs.Ready.{Ready};
 ghost use Rattle.record_conversion.specs.Conversions.{conversionOf};
 
-mod aces;
+mod aces_record;
 mod pixel;
 mod scene;
 
@@ -56,7 +56,7 @@ pub fn check_inner(k: Kind, s: Setting, d: Decoder, t: &[u64; 128], r: &[u8]) ->
         Kind::PixelToScene => pixel::check_codes(s, r),
         Kind::SceneToPixel => scene::check_numbers(s, r),
         Kind::PixelToAces => pixel::check_codes(s, r),
-        Kind::AcesToPixel => aces::check_triple(s, d, t, r),
+        Kind::AcesToPixel => aces_record::check_triple(s, d, t, r),
     }
 }
 
@@ -70,7 +70,7 @@ pub fn write_record(k: Kind, s: Setting, d: Decoder, t: &[u64; 128], r: &[u8], o
     match k {
         Kind::PixelToScene => pixel::write_scene(s, d, t, r, out),
         Kind::SceneToPixel => scene::write_pixel(s, d, t, r, out),
-        Kind::PixelToAces => aces::write_triple(s, d, t, r, out),
-        Kind::AcesToPixel => aces::write_back(s, d, t, r, out),
+        Kind::PixelToAces => aces_record::write_triple(s, d, t, r, out),
+        Kind::AcesToPixel => aces_record::write_back(s, d, t, r, out),
     }
 }

@@ -27,10 +27,11 @@ use Rattle.encode.proofs.Theorems.{encoded-nearest, encode-near}
 use Rattle.aces_inverse.specs.Given.{Small3, Given}
 use Rattle.aces_inverse.specs.Inverse.{candidate}
 use Rattle.aces_inverse.proofs.Inverse.{aces-small, candidate-near}
-use Rattle.way_back.specs.Back.{pixelAces, pixelFor}
+use Rattle.way_back.specs.Back.{pixelFor}
 use Rattle.way_back.specs.Candidate.{codeFor, candidatePixel, allInReach}
 use Rattle.way_back.proofs.Reach.{given-reached, reached-given}
 use Rattle.rules.specs.Pixels.{IsPixel}
+use Rattle.aces.specs.OfPixel.{pixelAces}
 
 -- ---- by any numbers that the rules allow for the codes of the setting
 module _ (s : Setting) (v : Valid s) (number : ℕ → ℤ) (allowed : (n : ℕ) → n ≤ topOf (s .width) → Decodes (scaleOf s) n (number n)) (a : Triple) (q : Pixel)

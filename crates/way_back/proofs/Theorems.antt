@@ -13,10 +13,11 @@ use Rattle.rules.specs.Matrix.{matrixOf}
 use Rattle.rules.proofs.Search as search
 use Rattle.rules.proofs.Settings.{code-passed, code-passes}
 use Rattle.decode.specs.Decoded.{decoded}
-use Rattle.way_back.specs.Back.{pixelAces, pixelFor}
+use Rattle.way_back.specs.Back.{pixelFor}
 use Rattle.way_back.specs.Candidate.{candidatePixel}
 use Rattle.way_back.proofs.Only.{PixelGives, only-candidate}
 use Rattle.rules.specs.Pixels.{IsPixel}
+use Rattle.aces.specs.OfPixel.{pixelAces}
 
 -- as the rules' words say it
 to-gives : (s : Setting) (a : Triple) (p : Pixel) → IsPixel s p → pixelAces s p ≡ a → PixelGives s a p

@@ -2,7 +2,6 @@
 -- Assumes nothing.
 use Prim.Native.Nat.{ℕ}
 use Rattle.rules.specs.declared.Setting.{Setting}
-use Rattle.rules.specs.declared.Pixel.{Pixel}
 use Rattle.rules.specs.declared.Triple.{Triple}
 use Rattle.rules.specs.declared.Found.{Found}
 use Rattle.rules.specs.Refusal.{numberOf}
@@ -12,11 +11,7 @@ use Rattle.rules.specs.Calls.{wayBackBy}
 use Rattle.decode.specs.Decoded.{decoded}
 use Rattle.way_back.specs.declared.Back.{Back}
 use Rattle.way_back.specs.declared.Back as back
-use Rattle.rules.specs.Pixels.{codes, acesBy}
-
--- the ACES numbers of a pixel of a setting
-abbrev pub pixelAces : Setting → Pixel → Triple
-pixelAces = acesBy decoded
+use Rattle.rules.specs.Pixels.{codes}
 
 -- the pixel of a setting that gives three ACES numbers
 abbrev pub pixelFor : Setting → Triple → Found

@@ -1,4 +1,4 @@
-// One pixel's ACES numbers, and the way back from three ACES numbers to the pixel.
+// The way back from three ACES numbers to the pixel.
 ghost use mathlib.Core.Path.{_≡_};
 ghost use Rattle.rules.specs.declared.Check.the-variants.{Passed};
 ghost use Rattle.rules.specs.declared.Found as found;
@@ -9,9 +9,10 @@ ghost use Rattle.rules.specs.WayBack.{equal, equal3, tried, codesFound, foundCh
 ghost use Rattle.aces_inverse.specs.Given.{Given};
 ghost use Rattle.decode.specs.Decoded.{decoded};
 ghost use Rattle.decode.specs.Ready.{Ready};
-ghost use Rattle.way_back.specs.Back.{pixelAces, pixelFor, backResult, wayBackResult};
+ghost use Rattle.way_back.specs.Back.{pixelFor, backResult, wayBackResult};
 ghost use Rattle.way_back.specs.Candidate.{inReach, allInReach, candidatePixel};
 ghost use Rattle.rules.specs.Pixels.{IsPixel};
+ghost use Rattle.aces.specs.OfPixel.{pixelAces};
 use decode::decoder::Decoder;
 use rules::Aces;
 use rules::Check;
@@ -29,18 +30,6 @@ const REACH: i64 = 274877906944;
 pub enum Back {
     Pixel(Pixel),
     Refused(Refusal),
-}
-
-// The ACES numbers of a pixel.
-pub fn to_aces(s: Setting, d: Decoder, t: &[u64; 128], p: Pixel) -> Triple
-    requires { ⌜ Ready s d (now t) ⌝ }
-    requires { ⌜ IsPixel s p ⌝ }
-    ensures { λ a. ⌜ a ≡ pixelAces s p ⌝ }
-{
-    let x = d.scene(t, p.red);
-    let y = d.scene(t, p.green);
-    let z = d.scene(t, p.blue);
-    aces::aces(s, x, y, z)
 }
 
 fn in_reach(a: Aces) -> bool
@@ -106,7 +95,7 @@ fn try_pixel(s: Setting, d: Decoder, t: &[u64; 128], p: Pixel, a: Triple) -> Fou
     requires { ⌜ IsPixel s p ⌝ }
     ensures { λ f. ⌜ f ≡ tried (decoded s) (matrixOf s) a p ⌝ }
 {
-    if same_triple(a, to_aces(s, d, t, p)) {
+    if same_triple(a, aces::of_pixel(s, d, t, p)) {
         Found::Pixel(p)
     } else {
         Found::Nothing

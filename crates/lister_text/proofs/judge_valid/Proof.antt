@@ -7,13 +7,13 @@ use Rattle.rules.specs.declared.Check.the-variants.{Passed}
 use Rattle.rules.specs.declared.Setting.{Setting}
 use Rattle.rules.specs.Record.{settingOf, pixelIn}
 use Rattle.rules.specs.Setting.{settingCheck}
-use Rattle.way_back.specs.Back.{pixelAces}
 use Rattle.record_conversion.specs.Conversions.{pixelToAces}
 use Rattle.record_conversion.proofs.Channels.{codes-pixel}
 use Rattle.lister_text.proofs.Judged.{code-refused, all-passed}
 use Rattle.lister_text.proofs.judge_valid.Statement.{statement}
 use Rattle.lister_text.proofs.judge_valid.Tie as tie
 use Rattle.rules.specs.Pixels.{IsPixel}
+use Rattle.aces.specs.OfPixel.{pixelAces}
 
 valid : (s : tie.Start) → settingCheck (settingOf (now (s .args .r))) ≡ Passed
 valid s = ap settingCheck (sym (s .pre .1 .0)) ∙ s .pre .0
@@ -21,8 +21,8 @@ valid s = ap settingCheck (sym (s .pre .1 .0)) ∙ s .pre .0
 passes : (c : tie.After-enum-told) → pixelToAces .inner (now (c .before .before .before .before .before .before .before .args .r)) ≡ Passed
 passes c = sym (c .before .before .check-inner .ensures) ∙ c .enum-told .given .1
 
-to-aces-requires : tie.Need-to-aces-requires
-to-aces-requires c κs =
+of-pixel-requires : tie.Need-of-pixel-requires
+of-pixel-requires c κs =
     let t = c .before .before .before .before .before .before in
     let s = t .before .before .before in (
       record { valid = s .pre .0; decoder = t .before .new .ensures; table = t .table .ensures },
@@ -41,11 +41,11 @@ returns-2 c =
     let e = c .before .before .before in
     let s = e .before .before .before .before .before .before .before in
     all-passed (now (s .args .r)) (valid s) (passes e)
-    (c .to-aces .ensures
+    (c .of-pixel .ensures
     ∙ ap (pixelAces (s .args .s)) (c .before .pixel-in .ensures)
     ∙ ap (λ (k : Setting). pixelAces k (pixelIn (now (s .args .r)))) (s .pre .1 .0))
 
 pub judge-valid-spec : {M : Type 1} → statement M
 judge-valid-spec =
     tie.close
-    (tie.spec (λ c κs. search needs) (λ c κs. search needs) (λ c κs. search needs) (λ c. search needs) (λ c. search needs) (λ c κs. search needs) to-aces-requires returns returns-2)
+    (tie.spec (λ c κs. search needs) (λ c κs. search needs) (λ c κs. search needs) (λ c. search needs) (λ c. search needs) (λ c κs. search needs) of-pixel-requires returns returns-2)

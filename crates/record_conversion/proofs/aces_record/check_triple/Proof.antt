@@ -5,8 +5,8 @@ use borrow.Author.Needs.{needs}
 use Rattle.rules.specs.declared.Triple.{Triple}
 use Rattle.rules.specs.WayBack.{foundCheck}
 use Rattle.way_back.specs.Back.{pixelFor}
-use Rattle.record_conversion.proofs.aces.check_triple.Statement.{statement}
-use Rattle.record_conversion.proofs.aces.check_triple.Tie as tie
+use Rattle.record_conversion.proofs.aces_record.check_triple.Statement.{statement}
+use Rattle.record_conversion.proofs.aces_record.check_triple.Tie as tie
 
 returns : tie.Need-returns
 returns c = c .check-aces .ensures ∙ ap (λ (a : Triple). foundCheck (pixelFor (c .before .before .before .args .s) a)) (c .before .triple-in .ensures)

@@ -7,8 +7,8 @@ use Rattle.rules.specs.declared.Found.{Found}
 use Rattle.rules.specs.declared.Triple.{Triple}
 use Rattle.rules.specs.WayBack.{foundCheck}
 use Rattle.way_back.specs.Back.{pixelFor}
-use Rattle.record_conversion.proofs.aces.write_back.Statement.{statement}
-use Rattle.record_conversion.proofs.aces.write_back.Tie as tie
+use Rattle.record_conversion.proofs.aces_record.write_back.Statement.{statement}
+use Rattle.record_conversion.proofs.aces_record.write_back.Tie as tie
 use Rattle.rules.specs.Record.{pixelRecord}
 use Rattle.rules.specs.Conversions.{pixelFound}
 

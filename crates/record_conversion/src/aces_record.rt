@@ -5,9 +5,10 @@ ghost use Rattle.rules.specs.declared.Check.the-variants.{Passed};
 ghost use Rattle.rules.specs.Setting.{codeCheck};
 ghost use Rattle.rules.specs.WayBack.{foundCheck};
 ghost use Rattle.decode.specs.Ready.{Ready};
-ghost use Rattle.way_back.specs.Back.{pixelAces, pixelFor};
+ghost use Rattle.way_back.specs.Back.{pixelFor};
 ghost use Rattle.rules.specs.Record.{pixelIn, pixelRecord, tripleIn, acesRecord};
 ghost use Rattle.rules.specs.Conversions.{channelChecks, pixelFound};
+ghost use Rattle.aces.specs.OfPixel.{pixelAces};
 use decode::decoder::Decoder;
 use rules::Check;
 use rules::Setting;
@@ -20,7 +21,7 @@ pub fn write_triple(s: Setting, d: Decoder, t: &[u64; 128], r: &[u8], out: &mut 
     requires { ⌜ length (now out) ≡ 28 ⌝ }
     ensures { λ _. ⌜ now (out .exit) ≡ acesRecord s (pixelAces s (pixelIn (now (r .entry)))) ⌝ }
 {
-    let a = way_back::to_aces(s, d, t, records::pixel_in(r));
+    let a = aces::of_pixel(s, d, t, records::pixel_in(r));
     records::put_aces(out, s, a);
 }
 

@@ -1,4 +1,4 @@
--- `to_aces` meets its contract: each code is decoded, and the numbers are taken to ACES.
+-- `of_pixel` meets its contract: each code is decoded, and the numbers are taken to ACES.
 -- Assumes nothing.
 use mathlib.Core.Path.{_≡_, ap, _∙_, subst, sym}
 use lib.IntN.{ℤ}
@@ -10,9 +10,9 @@ use Rattle.rules.proofs.Settings.{code-passed}
 use Rattle.decode.specs.Decoded.{decoded}
 use Rattle.decode.proofs.Fit.{ready-fits, ready-number}
 use Rattle.row_product.specs.Row.{Number}
 use Rattle.aces.proofs.Theorems.{decoded-number}
-use Rattle.way_back.proofs.to_aces.Statement.{statement}
-use Rattle.way_back.proofs.to_aces.Tie as tie
+use Rattle.aces.proofs.of_pixel.Statement.{statement}
+use Rattle.aces.proofs.of_pixel.Tie as tie
 
 scene-requires : tie.Need-scene-requires
 scene-requires c κs = ready-fits (c .pre .0) _ (c .pre .1 .red)
@@ -49,7 +49,7 @@ returns c =
     let a = rw (red-is k, green-is k, blue-is k) at (c .aces .ensures) in
     λ i. record { red = record { 0 = a .red-is i }; green = record { 0 = a .green-is i }; blue = record { 0 = a .blue-is i } }
 
-pub to-aces-spec : {M : Type 1} → statement M
-to-aces-spec =
+pub of-pixel-spec : {M : Type 1} → statement M
+of-pixel-spec =
     tie.close
     (tie.spec scene-requires scene-requires-2 scene-requires-3 aces-requires returns)
