@@ -123,6 +123,9 @@ def manifests(folder):
     (folder / "back.pixels.manifest").unlink()
     assert call("verify", back, aces)[0] == DONE
 
+    listed.write_text(json.dumps(dict(value, **{"from": dict(value["from"], sha256="0" * 64)})))
+    holds(call("verify", back, aces), REFUSED, f"{back}: differs: {listed} says that the master was made from another file")
+
     # a manifest that is there stays true; one that cannot be read is a failure
     pixels.write_bytes(GOOD)
     status, _, wrong = call("to-aces", pixels, aces)

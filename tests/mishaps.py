@@ -1,11 +1,12 @@
 #!/usr/bin/env python3
-"""mishaps.py PROGRAM [TEST..]: mishaps that an operator of the command meets: an upstream that failed, few processes or little memory, signals, an endless pipe, a file that is written
-while it is read, other runs, a crowded folder, a full disk, and what a replaced file keeps. Each test fails on a command without its care."""
+"""mishaps.py PROGRAM [TEST..]: mishaps that an operator of the command meets: an upstream that failed, few processes or little memory,
+signals, an endless pipe, a file that is written while it is read, other runs, a crowded folder, a full disk, and what a replaced file keeps.
+Each test fails on a command without its care."""
 import fcntl, os, shutil, signal, stat, subprocess, time
 from pathlib import Path
 
 from calls import DONE, FILES, GOOD, NOBODY, OLD, PROGRAM, REFUSED, USAGE, begin, begun, call, each, holds, keeps, limited, litter, size, until
-from rules import PIXEL
+from rules import NUMBERS, PIXEL
 
 BAD = PIXEL.pack(3, 10, 800, 0, 1024, 0)  # refused by 6
 
@@ -122,6 +123,27 @@ def endless_pipe(folder):
         last = (bytes(said) + run.stderr.read()).decode().splitlines()
         assert len(last) == 2 and last[1].startswith(f"standard input: {verdict}"), last
         assert out.read_bytes() == OLD and not litter(folder)
+
+
+def paused_pipe(folder):
+    """a pipe that pauses within a record; and one on which a later part is refused before an earlier one, which is the first all the same"""
+    out = folder / "out"
+    run = begin("to-aces", "-", out, stdin=subprocess.PIPE)
+    for piece in GOOD * 3 + GOOD[:4], GOOD[4:9], GOOD[9:] + GOOD:
+        run.stdin.write(piece)
+        run.stdin.flush()
+        time.sleep(0.15)
+    run.stdin.close()
+    assert run.wait(20) == DONE
+    (folder / "in").write_bytes(GOOD * 5)
+    assert call("to-aces", folder / "in", folder / "whole") == (DONE, "", "") and out.read_bytes() == (folder / "whole").read_bytes()
+    good, bad = NUMBERS.pack(3, 12, 800, -238167, -283566, -289928), NUMBERS.pack(3, 12, 800, 0, 0, 1)
+    run = begin("to-camera", "-", out, "--chunk", "100000", "--threads", "2", stdin=subprocess.PIPE)
+    run.stdin.write(good * 99999 + bad * 100001)
+    run.stdin.flush()
+    assert run.stderr.readline().startswith(b"standard input: refused so far by 10: record 99999 (byte 2799972): ")
+    run.communicate()
+    assert run.returncode == REFUSED
 
 
 def names_in_messages(folder):
@@ -256,6 +278,6 @@ def reels(folder):
 
 if __name__ == "__main__":
     each((
-        empty_input, few_resources, signals, endless_pipe, names_in_messages, written_meanwhile, other_runs, crowded_folder, no_room, replaced,
+        empty_input, few_resources, signals, endless_pipe, paused_pipe, names_in_messages, written_meanwhile, other_runs, crowded_folder, no_room, replaced,
         reels,
     ))

@@ -124,7 +124,8 @@ fn facts(views: &[View], by: &str) -> Facts {
     let how = match by {
         "records" if views.iter().all(|view| view.refused.is_some()) => "refused as each kind".to_string(),
         "records" => format!("{} records, as its length and settings allow", names.join(" or ")),
-        _ => format!("{} records, by its {}", names.join(" or "), by),
+        "option" => format!("{} records, as --kind says", names.join(" or ")),
+        _ => format!("{} records, as its {} says", names.join(" or "), by),
     };
     let mut words = how;
     for view in views {

@@ -13,9 +13,9 @@ use Rattle.whole.specs.Parts.{up, dn}
 use Rattle.whole.proofs.Reflect.{at, add, mul, dif}
 use Rattle.whole.proofs.Floor.{half-bounds}
 use Rattle.whole.proofs.Tidy.{tidy}
-use Rattle.rules.specs.Fraction.{Fraction, ratio, whole, integer, _+ℚ_, _-ℚ_, _*ℚ_, _/ℚ_, nearest, Versus}
+use Rattle.rules.specs.Fraction.{Fraction, ratio, whole, integer, _+ℚ_, _-ℚ_, _*ℚ_, _/ℚ_, nearest, Versus, Less, Greater}
 use Rattle.rules.specs.Exact.{Scale, VersusExact}
-use Rattle.rules.specs.Decoding.{unit, tolerance, Less, Greater}
+use Rattle.rules.specs.Decoding.{unit, tolerance}
 use Rattle.rules.specs.Choice.{choose}
 use Rattle.rules.specs.Matrix.{Matrix, logC3Matrix, logC4Matrix, entry, acesNumber}
 use Rattle.rules.specs.ExactRow.{acesTolerance, Side, VersusRow, WithinRow}

@@ -14,10 +14,10 @@ use Rattle.whole.proofs.Floor.{half-bounds}
 use Rattle.whole.proofs.Tidy.{tidy}
 use Rattle.rules.specs.declared.Setting.{Setting}
 use Rattle.rules.specs.Setting.{topOf, curveOf, Valid}
-use Rattle.rules.specs.Fraction.{Fraction, ratio, whole, integer, _+ℚ_, _-ℚ_, _*ℚ_, nearest, Versus}
+use Rattle.rules.specs.Fraction.{Fraction, ratio, whole, integer, _+ℚ_, _-ℚ_, _*ℚ_, nearest, Versus, Less, Greater}
 use Rattle.rules.specs.Curve.{Curve, logC4, logC3, inToe, toeValue}
 use Rattle.rules.specs.Exact.{Scale, signal, scaleOf, VersusPart, VersusExact}
-use Rattle.rules.specs.Decoding.{unit, tolerance, Less, Greater, DecodesPart}
+use Rattle.rules.specs.Decoding.{unit, tolerance, DecodesPart}
 use Rattle.curve_table.specs.Table.{tableOf}
 use Rattle.decode.specs.Decoded.{decoded}
 use Rattle.whole.proofs.Tests.{every}

@@ -16,10 +16,10 @@ use Rattle.whole.proofs.Near.{Near}
 use Rattle.whole.proofs.Tests.{every}
 use Rattle.rules.specs.declared.Setting.{Setting}
 use Rattle.rules.specs.Setting.{topOf, curveOf, Valid}
-use Rattle.rules.specs.Fraction.{Fraction, ratio, whole, integer, _+ℚ_, _-ℚ_, _*ℚ_, VersusPower, cleared}
+use Rattle.rules.specs.Fraction.{Fraction, ratio, whole, integer, _+ℚ_, _-ℚ_, _*ℚ_, VersusPower, cleared, Less, Greater}
 use Rattle.rules.specs.Curve.{Curve, base, exponent, inToe}
 use Rattle.rules.specs.Exact.{Scale, signal, scaleOf, powerFor, VersusPart}
-use Rattle.rules.specs.Decoding.{unit, tolerance, Less, Greater, DecodesPart, DecodesWithin, Decodes}
+use Rattle.rules.specs.Decoding.{unit, tolerance, DecodesPart, DecodesWithin, Decodes}
 use Rattle.rules.proofs.Values.{less}
 use Rattle.curve_table.specs.Table.{tableOf}
 use Rattle.decode.specs.Decoded.{offset, raw, decoded}

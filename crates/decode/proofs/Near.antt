@@ -11,11 +11,11 @@ use lib.IntN.{ℤ, subℕ}
 use Rattle.whole.specs.Parts.{up, dn}
 use Rattle.whole.proofs.Reflect.{sub-dif}
 use Rattle.whole.proofs.Tidy.{tidy}
-use Rattle.rules.specs.Fraction.{Fraction, ratio, whole, integer, _+ℚ_, _-ℚ_, _*ℚ_, Versus, VersusPower}
+use Rattle.rules.specs.Fraction.{Fraction, ratio, whole, integer, _+ℚ_, _-ℚ_, _*ℚ_, Versus, VersusPower, Less, Greater}
 use Rattle.rules.specs.Curve.{base, exponent, factor}
 use Rattle.rules.specs.Curve as curve
 use Rattle.rules.specs.Exact.{Scale, signal, powerFor}
-use Rattle.rules.specs.Decoding.{tolerance, Less, Greater}
+use Rattle.rules.specs.Decoding.{tolerance}
 use Rattle.rules.specs.Decoding as decoding
 use Rattle.rules.proofs.Values.{less, flip}
 use Rattle.power.specs.Power.{Below, Above}

@@ -4,9 +4,9 @@ use mathlib.Core.List.{[], _∷_}
 use Prim.Native.Nat.{ℕ}
 use lib.IntN.{ℤ}
 use Rattle.rules.specs.declared.Setting.{Setting}
-use Rattle.rules.specs.Refusal.{then, numberOf}
-use Rattle.rules.specs.Result.{Result, done, refusedBy, single}
-use Rattle.rules.specs.Setting.{settingCheck, codeCheck}
+use Rattle.rules.specs.Refusal.{numberOf}
+use Rattle.rules.specs.Result.{Result, done, refusedBy}
+use Rattle.rules.specs.Calls.{decodeBy}
 use Rattle.decode.specs.declared.Decoding.{Decoding}
 use Rattle.decode.specs.Decoded.{decoded}
 
@@ -17,4 +17,4 @@ decodingResult (Decoding.Refused why) = refusedBy (numberOf why) 0
 
 -- the decoded number, or the refusal of the first check that fails: 3, 4, 5, then 6
 unfoldable pub decodeResult : Setting → ℕ → Result ℤ
-decodeResult s n = single (then (settingCheck s) (codeCheck s n)) (decoded s n ∷ [])
+decodeResult = decodeBy decoded

@@ -10,10 +10,10 @@ use Rattle.whole.specs.Parts.{up, dn}
 use Rattle.whole.proofs.Reflect.{at, leN-of, sub-dif}
 use Rattle.whole.proofs.Near.{Near}
 use Rattle.rules.specs.declared.Setting.{Setting}
-use Rattle.rules.specs.Fraction.{ratio, integer, _*ℚ_}
+use Rattle.rules.specs.Fraction.{ratio, integer, _*ℚ_, AtMost, AtLeast}
 use Rattle.rules.specs.Setting.{topOf, curveOf, Valid}
 use Rattle.rules.specs.Exact.{scaleOf, VersusExact}
-use Rattle.rules.specs.Decoding.{unit, AtMost, AtLeast}
+use Rattle.rules.specs.Decoding.{unit}
 use Rattle.rules.specs.Encoding.{IsNearest, TwoThirds}
 use Rattle.rules.proofs.Closest as closest
 use Rattle.curve_table.specs.Table.{tableOf}

@@ -13,10 +13,9 @@ use lib.IntN.{ℤ}
 use Rattle.whole.specs.Parts.{up, dn}
 use Rattle.whole.proofs.Tidy.{tidy}
 use Rattle.rules.specs.Choice.{choose}
-use Rattle.rules.specs.Fraction.{Fraction, ratio, integer, _*ℚ_, Versus, VersusPower}
+use Rattle.rules.specs.Fraction.{Fraction, ratio, integer, _*ℚ_, Versus, VersusPower, AtMost, AtLeast}
 use Rattle.rules.specs.Curve.{Curve, logC4, logC3, Constants, base, exponent, less, factor, border, inToe, toeValue}
 use Rattle.rules.specs.Exact.{Scale, powerFor, VersusPart, VersusExact}
-use Rattle.rules.specs.Decoding.{AtMost, AtLeast}
 use Rattle.rules.specs.Decoding as decoding
 use Rattle.rules.proofs.Values as values
 use Rattle.power.specs.Power.{Below, below, Above, above}

@@ -3,10 +3,9 @@
 use Prim.Native.Nat.{ℕ}
 use lib.IntN.{ℤ}
 use Rattle.rules.specs.declared.Setting.{Setting}
-use Rattle.rules.specs.Setting.{topOf}
-use Rattle.rules.specs.Encoding.{closest}
+use Rattle.rules.specs.Encoding.{codeBy}
 use Rattle.decode.specs.Decoded.{decoded}
 
 -- "the code whose decoded number is nearest; of two equally near, the lower"
 abbrev pub encoded : Setting → ℤ → ℕ
-encoded s x = closest (decoded s) x (topOf (s .width))
+encoded = codeBy decoded

@@ -10,11 +10,10 @@ use Rattle.rules.specs.declared.Pixel.{Pixel}
 use Rattle.rules.specs.declared.Setting.{Setting}
 use Rattle.rules.specs.Refusal.{then}
 use Rattle.rules.specs.Setting.{codeCheck, Valid}
-use Rattle.rules.specs.WayBack.{IsPixel}
 use Rattle.rules.proofs.Settings.{both, code-passed}
 use Rattle.decode.specs.Decoded.{offset, raw, decoded}
 use Rattle.decode.proofs.Limit.{raw-limited}
-use Rattle.float_decode.specs.Answer.{codesCheck}
+use Rattle.rules.specs.Pixels.{IsPixel, codesCheck}
 
 pub is-pixel : (s : Setting) (p : Pixel) → codesCheck s p ≡ Passed → IsPixel s p
 is-pixel s p e =

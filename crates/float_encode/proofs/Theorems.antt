@@ -12,7 +12,6 @@ use Rattle.rules.specs.Refusal.{then}
 use Rattle.rules.specs.Result.{Result, done, single}
 use Rattle.rules.specs.Setting.{settingCheck, codeCheck, Valid}
 use Rattle.rules.specs.Float.{floatCheck, unitsOf, floatOf}
-use Rattle.rules.specs.WayBack.{IsPixel, pixel, codes}
 use Rattle.rules.proofs.Results.{zero-passed}
 use Rattle.rules.proofs.Settings.{both, code-passed}
 use Rattle.decode.specs.Decoded.{decoded}
@@ -23,9 +22,10 @@ use Rattle.float_unit.specs.Reading.{readAnswer}
 use Rattle.float_unit.proofs.Readings.{check-is, scene-is}
 use Rattle.float_unit.proofs.Theorems.{own-reading}
 use Rattle.float_decode.specs.declared.FloatPixel.{FloatPixel}
-use Rattle.float_decode.specs.Answer.{codesCheck, floatPixel, floats, decodePixelResult}
+use Rattle.float_decode.specs.Answer.{floatPixel, floats, decodePixelResult}
 use Rattle.float_decode.proofs.Channels.{is-pixel, decoded-small}
 use Rattle.float_encode.specs.Answer.{encodePixelResult}
+use Rattle.rules.specs.Pixels.{IsPixel, pixel, codes, codesCheck}
 
 -- the float of a code's number passes the checks, and encodes to that code
 module _ (s : Setting) (v : Valid s) (n : ℕ) (h : codeCheck s n ≡ Passed) where

@@ -4,18 +4,18 @@ use Prim.Native.Nat.{ℕ}
 use Rattle.rules.specs.declared.Check.{Check}
 use Rattle.rules.specs.declared.Pixel.{Pixel}
 use Rattle.rules.specs.declared.Setting.{Setting}
-use Rattle.rules.specs.Refusal.{then}
-use Rattle.rules.specs.Result.{Result, done, refusedBy, single}
-use Rattle.rules.specs.Setting.{settingCheck}
-use Rattle.rules.specs.Float.{floatCheck, unitsOf}
-use Rattle.rules.specs.WayBack.{pixel, codes}
+use Rattle.rules.specs.Result.{Result, done, refusedBy}
+use Rattle.rules.specs.Calls.{floatsCheck, encodeFloatsBy}
+use Rattle.rules.specs.Float.{unitsOf}
+use Rattle.decode.specs.Decoded.{decoded}
 use Rattle.encode.specs.Encoded.{encoded}
 use Rattle.float_decode.specs.declared.FloatPixel.{FloatPixel}
 use Rattle.float_encode.specs.declared.FloatEncoding.{FloatEncoding}
+use Rattle.rules.specs.Pixels.{pixel, codes}
 
 -- "red, green and blue (each channel's checks before the next channel)"
-abbrev pub floatsCheck : FloatPixel → Check
-floatsCheck f = then (floatCheck (f .red)) (then (floatCheck (f .green)) (floatCheck (f .blue)))
+abbrev pub pixelCheck : FloatPixel → Check
+pixelCheck f = floatsCheck (f .red) (f .green) (f .blue)
 
 -- "In the other direction a float is .. taken to the nearest unit (a half going up), then encoded."
 abbrev pub codePixel : Setting → FloatPixel → Pixel
@@ -28,4 +28,4 @@ floatEncodingResult (FloatEncoding.Refused number) = refusedBy number 0
 
 -- the codes, or the refusal of the first check that fails: 3, 4, 5, then 8 and 9 for red, green and blue
 unfoldable pub encodePixelResult : Setting → FloatPixel → Result ℕ
-encodePixelResult s f = single (then (settingCheck s) (floatsCheck f)) (codes (codePixel s f))
+encodePixelResult s f = encodeFloatsBy decoded s (f .red) (f .green) (f .blue)

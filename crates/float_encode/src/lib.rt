@@ -5,17 +5,17 @@ ghost use Rattle.rules.specs.Refusal.{numberOf};
 ghost use Rattle.rules.specs.Result.{refusedBy, single};
 ghost use Rattle.rules.specs.Setting.{Valid};
 ghost use Rattle.rules.specs.Encoding.{sceneCheck};
-ghost use Rattle.rules.specs.WayBack.{pixel, codes};
 ghost use Rattle.encode.specs.Encoded.{encoded};
-ghost use Rattle.float_encode.specs.Answer.{floatsCheck, codePixel, floatEncodingResult, encodePixelResult};
+ghost use Rattle.float_encode.specs.Answer.{pixelCheck, codePixel, floatEncodingResult, encodePixelResult};
+ghost use Rattle.rules.specs.Pixels.{pixel, codes};
 use decode::decoder::Decoder;
 use float_decode::FloatPixel;
+use float_unit::Reading;
 use rules::Check;
 use rules::Pixel;
 use rules::Refusal;
 use rules::Scene;
 use rules::Setting;
-use float_unit::Reading;
 
 // What encoding one float pixel answers: the pixel, or the refusal number of the cause (`setting::refusal_number`).
 pub enum FloatEncoding {
@@ -47,7 +47,7 @@ fn codes_of(s: Setting, red: Scene, green: Scene, blue: Scene) -> Pixel
 
 fn encode_valid(s: Setting, f: FloatPixel) -> FloatEncoding
     requires { ⌜ Valid s ⌝ }
-    ensures { λ a. ⌜ floatEncodingResult a ≡ single (floatsCheck f) (codes (codePixel s f)) ⌝ }
+    ensures { λ a. ⌜ floatEncodingResult a ≡ single (pixelCheck f) (codes (codePixel s f)) ⌝ }
 {
     match float_unit::read(f.red) {
         Reading::Refused(why) => refused(why),

@@ -15,11 +15,11 @@ use Rattle.whole.proofs.Reflect.{at, sub, dif}
 use Rattle.rules.specs.declared.Refusal.the-variants.{FloatOutOfRange}
 use Rattle.rules.specs.Choice.{choose}
 use Rattle.rules.specs.Fraction.{whole, _*ℚ_, nearest}
-use Rattle.rules.specs.Setting.{refuseUnless}
 use Rattle.rules.specs.Float.{signed, inRange, valueOf, floatCheck, unitsOf}
 use Rattle.rules.proofs.Nearest.{nearest-is, nearest-same}
 use Rattle.float_unit.specs.declared.Reading.{Reading}
 use Rattle.float_unit.specs.Reading.{unitsAfter, readAnswer}
+use Rattle.rules.specs.Refusal.{refuseUnless}
 
 -- the nearest unit of n / d, or of minus it
 abbrev pub unitsAt : Bool → (n d : ℕ) → ℤ

@@ -9,8 +9,7 @@ use lib.Dec.{lit<}
 use lib.IntN.{ℤ, pos, negsuc, natAbs}
 use lib.Ieee.{Float, nan, inf, fin}
 use lib.Ieee.Fits.{down-pos}
-use Rattle.rules.specs.Fraction.{ratio, whole, integer, _+ℚ_, _-ℚ_, _*ℚ_, Versus}
-use Rattle.rules.specs.Decoding.{Less, AtMost}
+use Rattle.rules.specs.Fraction.{ratio, whole, integer, _+ℚ_, _-ℚ_, _*ℚ_, Versus, Less, AtMost}
 use Rattle.rules.specs.Float.{signed, valueOf, unitsOf, negative, floatOf}
 use Rattle.rules.proofs.Nearest.{nearest-is, nearest-half}
 use Rattle.float_unit.specs.declared.Reading.{Reading}

@@ -12,10 +12,11 @@ use Rattle.rules.specs.declared.Refusal as refusal
 use Rattle.rules.specs.declared.Triple.{Triple}
 use Rattle.rules.specs.Choice.{choose}
 use Rattle.rules.specs.Refusal.{numberOf}
-use Rattle.text.specs.Decimal.{decimal, signed}
 use Rattle.text.proofs.Digits.{length-decimal, length-signed}
-use Rattle.lister_line.specs.declared.Outcome.the-variants.{Aces, Refused}
-use Rattle.lister_line.specs.Line.{lineOf, line, tail, tailLine, longest, longestTail}
+use Rattle.rules.specs.declared.Outcome.the-variants.{Aces, Refused}
+use Rattle.lister_line.specs.Line.{longest, longestTail}
+use Rattle.rules.specs.Decimal.{decimal, signed}
+use Rattle.rules.specs.Lister.{lineOf, line, tail, tailLine}
 
 number-small : (why : Refusal) → numberOf why < 100
 number-small refusal.Refusal.PartialRecord = omega arith

@@ -4,11 +4,10 @@ use mathlib.Core.Path.{_≡_, refl}
 use mathlib.Core.List.{List, [], _∷_, _++_}
 use Prim.Native.Nat.{ℕ}
 use borrow.Author.Tests.{eq-eqb, ne-eqb}
-use Rattle.text.specs.Decimal.{decimal}
-use Rattle.text.specs.Put.{followed}
-use Rattle.lister_line.specs.declared.Outcome.{Outcome}
-use Rattle.lister_line.specs.declared.Outcome.the-variants.{Aces, Refused}
-use Rattle.lister_line.specs.Line.{lineOf, words, line, tail, tailLine}
+use Rattle.rules.specs.declared.Outcome.the-variants.{Aces, Refused}
+use Rattle.rules.specs.Decimal.{decimal}
+use Rattle.rules.specs.Lister.{followed, lineOf, words, line, tail, tailLine}
+use Rattle.rules.specs.declared.Outcome.{Outcome}
 
 -- a line is its index with the space behind it, and the words of the record
 pub line-parts : (k : ℕ) (o : Outcome) → line k o ≡ followed (decimal k) 32 ++ lineOf (words o)

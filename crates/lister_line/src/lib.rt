@@ -1,19 +1,14 @@
 // The lister's lines: a record's outcome, and the bytes short of a record, as text.
 ghost use Rattle.text.specs.Put.{Room, Put};
-ghost use Rattle.lister_line.specs.declared.Outcome.the-variants.{Aces, Refused};
-ghost use Rattle.lister_line.specs.Line.{lineOf, words, line, tailLine};
+ghost use Rattle.rules.specs.declared.Outcome.the-variants.{Aces, Refused};
+ghost use Rattle.rules.specs.Lister.{lineOf, words, line, tailLine};
+use rules::Outcome;
 use rules::Refusal;
 use rules::Triple;
 
 const SPACE: u8 = 32;
 
 const NEWLINE: u8 = 10;
-
-// What becomes of a record: three ACES numbers, or the refusal.
-pub enum Outcome {
-    Aces(Triple),
-    Refused(Refusal),
-}
 
 // `ok` and three ACES numbers, to the end of the line.
 fn put_ok(out: &mut [u8], at: usize, a: Triple) -> usize

@@ -12,10 +12,11 @@ use Rattle.rules.specs.Choice.{choose}
 use Rattle.rules.specs.Strip.{records}
 use Rattle.text.specs.Put.{Room, Put}
 use Rattle.text.proofs.Putting.{room-next, put-both}
-use Rattle.lister_line.specs.Line.{tailLine, longest, longestTail}
+use Rattle.lister_line.specs.Line.{longest, longestTail}
 use Rattle.lister_line.proofs.Lengths.{tail-long}
 use Rattle.lister_text.specs.Listed.{lines, enough, listed, textFor, Lists}
 use Rattle.lister_text.proofs.Lengths.{lines-long}
+use Rattle.rules.specs.Lister.{tailLine, listedBy}
 
 none : (k : ℕ) (input output : List ℕ) → enough k input output ≡ false → Lists k input output 0 output
 unfolding textFor
@@ -52,7 +53,7 @@ module _ (k : ℕ) (input output : List ℕ) where
       lower-room = room-next upper lower all-room p
 
       pub all-listed : {last : List ℕ} {end : ℕ} → Put lower after at last end → Lists k input output end last
-      unfolding textFor listed
+      unfolding textFor listedBy
       all-listed q =
           let w = put-both upper lower all-room p q in
           let h = le-leb (longest * (length input / 10) + longestTail) (length output) room in

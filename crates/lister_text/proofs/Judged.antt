@@ -7,11 +7,10 @@ use Rattle.rules.specs.declared.Check as check
 use Rattle.rules.specs.declared.Refusal.{Refusal}
 use Rattle.rules.specs.declared.Triple.{Triple}
 use Rattle.rules.specs.Setting.{settingCheck}
-use Rattle.rules.specs.Record.{settingOf}
+use Rattle.rules.specs.Record.{settingOf, pixelIn}
 use Rattle.way_back.specs.Back.{pixelAces}
-use Rattle.rules.specs.Contents.{pixelIn}
 use Rattle.record_conversion.specs.Conversions.{pixelToAces}
-use Rattle.lister_line.specs.declared.Outcome.the-variants.{Aces, Refused}
+use Rattle.rules.specs.declared.Outcome.the-variants.{Aces, Refused}
 use Rattle.lister_text.specs.Listed.{outcomeOf}
 
 module _ (r : List ℕ) where

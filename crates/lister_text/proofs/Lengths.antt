@@ -7,7 +7,7 @@ use native.Mathlib.Omega.{arith}
 use lib.ListN.{length, take, drop, length-append}
 use Rattle.rules.specs.declared.Check.{Check}
 use Rattle.rules.specs.declared.Check as check
-use Rattle.rules.specs.Record.{codeBytes, settingOf, channelAt}
+use Rattle.rules.specs.Record.{codeBytes, settingOf, channelAt, pixelIn}
 use Rattle.rules.specs.Setting.{settingCheck, codeCheck}
 use Rattle.rules.specs.Strip.{recordCheck, records}
 use Rattle.rules.proofs.Settings.{code-passed, both}
@@ -16,12 +16,12 @@ use Rattle.aces_inverse.specs.Given.{Given}
 use Rattle.aces_inverse.proofs.Inverse.{aces-small}
 use Rattle.aces.proofs.Theorems.{decoded-small}
 use Rattle.way_back.specs.Back.{pixelAces}
-use Rattle.rules.specs.Contents.{pixelIn}
 use Rattle.record_conversion.specs.Conversions.{pixelToAces}
 use Rattle.record_conversion.proofs.Channels.{all-pass}
-use Rattle.lister_line.specs.Line.{line, longest}
+use Rattle.lister_line.specs.Line.{longest}
 use Rattle.lister_line.proofs.Lengths.{aces-long, refused-long}
-use Rattle.lister_text.specs.Listed.{outcomeOf, afterCheck, lines}
+use Rattle.lister_text.specs.Listed.{outcomeOf, lines}
+use Rattle.rules.specs.Lister.{line, afterCheck, linesBy}
 
 -- the ACES numbers of a pixel are at most 2 ^ 38
 numbers-small : (r : List ℕ) → recordCheck pixelToAces r ≡ check.Check.Passed
@@ -48,7 +48,7 @@ line-long k h r = go (recordCheck pixelToAces r) refl
     go (check.Check.Refused why) e = refused-long k h why
 
 pub lines-long : (k n : ℕ) (s : List ℕ) → k + n < 2 ^ 64 → length (lines k (records 10 n s)) ≤ longest * n
-unfolding lines records
+unfolding linesBy records
 lines-long k zero s h = omega arith
 lines-long k (suc n) s h =
     rw length-append (omega (arith, line-long k (omega arith) (take 10 s), lines-long (suc k) n (drop 10 s) (omega arith)))

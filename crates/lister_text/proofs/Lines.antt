@@ -8,11 +8,11 @@ use native.Mathlib.Omega.{arith}
 use lib.ListN.{length, drop}
 use Rattle.rules.specs.Strip.{records}
 use Rattle.strip_passes.proofs.Cut.{cut, records-more}
-use Rattle.lister_line.specs.Line.{line}
 use Rattle.lister_text.specs.Listed.{outcomeOf, lines}
+use Rattle.rules.specs.Lister.{line, linesBy}
 
 pub lines-append : (k : ℕ) (xs ys : List (List ℕ)) → lines k (xs ++ ys) ≡ lines k xs ++ lines (k + length xs) ys
-unfolding lines
+unfolding linesBy
 lines-append k [] ys = rw add-zero
 lines-append k (x ∷ xs) ys =
     let e : suc k + length xs ≡ k + suc (length xs) = omega arith in
@@ -24,7 +24,7 @@ length-records size zero s = refl
 length-records size (suc n) s = ap suc (length-records size n (drop size s))
 
 lines-one : (k : ℕ) (r : List ℕ) → lines k (r ∷ []) ≡ line k (outcomeOf r)
-unfolding lines
+unfolding linesBy
 lines-one k r = append-nil (line k (outcomeOf r))
 
 pub lines-more : (k i : ℕ) (s : List ℕ) → lines k (records 10 (i + 1) s) ≡ lines k (records 10 i s) ++ line (k + i) (outcomeOf (cut 10 i s))
@@ -32,5 +32,5 @@ lines-more k i s =
     rw (records-more, lines-append, lines-one, length-records)
 
 pub lines-none : (k : ℕ) (s : List ℕ) → lines k (records 10 0 s) ≡ []
-unfolding lines records
+unfolding linesBy records
 lines-none k s = refl

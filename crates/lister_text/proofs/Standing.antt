@@ -10,10 +10,11 @@ use Rattle.rules.specs.Strip.{records}
 use Rattle.strip_passes.proofs.Cut.{cut}
 use Rattle.text.specs.Put.{Room, Put}
 use Rattle.text.proofs.Putting.{put-none, put-both, put-length}
-use Rattle.lister_line.specs.Line.{line, longest}
+use Rattle.lister_line.specs.Line.{longest}
 use Rattle.lister_text.specs.Listed.{outcomeOf, lines}
 use Rattle.lister_text.proofs.Lengths.{line-long, lines-long}
 use Rattle.lister_text.proofs.Lines.{lines-none, lines-more}
+use Rattle.rules.specs.Lister.{line}
 
 -- behind the lines of the first i records
 pub record Stands (k : ℕ) (input : List ℕ) (n : ℕ) (buffer : List ℕ) (i : ℕ) (out : List ℕ) (at : ℕ) : Type 0 where

@@ -5,6 +5,7 @@ use mathlib.Core.List.{List, _++_, append-assoc, append-nil}
 use Prim.Native.Nat.{ℕ, _+_, _*_, _/_, _%_, _≤_}
 use native.Mathlib.Omega.{arith}
 use lib.ListN.{length, drop, length-append}
+use Rattle.rules.specs.Lister.{listedBy}
 use Rattle.rules.specs.Strip.{records}
 use Rattle.strip_passes.proofs.Cut.{records-append}
 use Rattle.lister_line.proofs.Parts.{tail-none}
@@ -20,14 +21,14 @@ module _ (k m : ℕ) (a b : List ℕ) (whole : length a ≡ m * 10) where
   over = rw length-append (omega arith)
 
   alone : listed k a ≡ lines k (records 10 m a)
-  unfolding listed
+  unfolding listedBy
   alone =
       let n : length a / 10 ≡ m = omega arith in
       let z : length a % 10 ≡ 0 = omega arith in
       rw (n, tail-none (length a % 10) z) (append-nil (lines k (records 10 m a)))
 
   pub listed-pieces : listed k (a ++ b) ≡ listed k a ++ listed (k + m) b
-  unfolding listed
+  unfolding listedBy
   listed-pieces =
       rw (count, over, records-append 10 m (length b / 10) a b whole, lines-append, length-records, alone, append-assoc)
 

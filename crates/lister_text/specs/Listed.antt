@@ -1,4 +1,4 @@
--- 01, "Float pixels and the lister": all that the lister prints.
+-- What the lister's function writes: all that the rules say it prints, where there is room.
 -- Assumes nothing.
 use mathlib.Core.Bool.{Bool, false}
 use mathlib.Core.List.{List, [], _∷_, _++_}
@@ -6,39 +6,21 @@ use mathlib.Core.Path.{_≡_}
 use Prim.Native.Nat.{ℕ, suc, _+_, _*_, _/_, _%_, _^_}
 use lib.Dec.{leb, ltb}
 use lib.ListN.{length, drop}
-use Rattle.rules.specs.declared.Check.{Check}
-use Rattle.rules.specs.declared.Check as check
-use Rattle.rules.specs.declared.Triple.{Triple}
 use Rattle.rules.specs.Choice.{choose}
-use Rattle.rules.specs.Record.{codeBytes, sizeOf, settingOf}
-use Rattle.rules.specs.Strip.{recordCheck, records}
-use Rattle.way_back.specs.Back.{pixelAces}
-use Rattle.rules.specs.Contents.{pixelIn}
-use Rattle.record_conversion.specs.Conversions.{pixelToAces}
-use Rattle.lister_line.specs.declared.Outcome.{Outcome}
-use Rattle.lister_line.specs.declared.Outcome.the-variants.{Aces, Refused}
-use Rattle.lister_line.specs.Line.{line, tailLine, longest, longestTail}
+use Rattle.rules.specs.declared.Outcome.{Outcome}
+use Rattle.rules.specs.Lister.{size, outcomeBy, linesBy, listedBy}
+use Rattle.decode.specs.Decoded.{decoded}
+use Rattle.lister_line.specs.Line.{longest, longestTail}
 
--- "Pixel record, 10 bytes"
-abbrev pub size : ℕ
-size = sizeOf codeBytes
-
--- what becomes of a record, which is judged alone: the pixel's three ACES numbers, or the refusal
-abbrev pub afterCheck : Check → Triple → Outcome
-afterCheck check.Check.Passed a = Aces a
-afterCheck (check.Check.Refused why) a = Refused why
-
+-- the rules' text, with the decoded numbers put in
 abbrev pub outcomeOf : List ℕ → Outcome
-outcomeOf r = afterCheck (recordCheck pixelToAces r) (pixelAces (settingOf r) (pixelIn r))
+outcomeOf = outcomeBy decoded
 
--- "a line each: index from 0", or from k
-unfoldable pub lines : (k : ℕ) → List (List ℕ) → List ℕ
-lines k [] = []
-lines k (r ∷ rs) = line k (outcomeOf r) ++ lines (suc k) rs
+abbrev pub lines : (k : ℕ) → List (List ℕ) → List ℕ
+lines = linesBy decoded
 
--- all that is printed for bytes whose first record has the index k
-unfoldable pub listed : (k : ℕ) → List ℕ → List ℕ
-listed k s = lines k (records size (length s / size) s) ++ tailLine (length s % size)
+abbrev pub listed : (k : ℕ) → List ℕ → List ℕ
+listed = listedBy decoded
 
 -- room for the longest text of so many bytes, and for their indices
 abbrev pub enough : (k : ℕ) → (input output : List ℕ) → Bool

@@ -7,11 +7,12 @@ ghost use Rattle.rules.specs.Record.{settingOf};
 ghost use Rattle.rules.specs.Strip.{records};
 ghost use Rattle.text.specs.Put.{Put};
 ghost use Rattle.lister_line.specs.Line.{longest};
-ghost use Rattle.lister_text.specs.Listed.{size, outcomeOf, lines, Lists};
-use record_conversion::Kind;
+ghost use Rattle.lister_text.specs.Listed.{outcomeOf, lines, Lists};
+ghost use Rattle.rules.specs.Lister.{size};
 use decode::decoder::Decoder;
-use lister_line::Outcome;
+use record_conversion::Kind;
 use rules::Check;
+use rules::Outcome;
 use rules::Setting;
 
 // The bytes of a pixel record, of the longest line, and of the longest line of a tail.

@@ -14,12 +14,12 @@ use Rattle.whole.specs.Parts.{up}
 use Rattle.whole.proofs.Reflect.{one-zero, abs-is, at, sub, dif, ltN-of}
 use Rattle.whole.proofs.Near.{near-test}
 use Rattle.whole.proofs.Tidy.{tidy}
-use Rattle.rules.specs.Fraction.{Fraction, whole, ratio, integer, _+ℚ_, _-ℚ_, _*ℚ_, VersusPower, nearest}
+use Rattle.rules.specs.Fraction.{Fraction, whole, ratio, integer, _+ℚ_, _-ℚ_, _*ℚ_, VersusPower, nearest, Less, Greater}
 use Rattle.rules.specs.declared.Setting.{Setting}
 use Rattle.rules.specs.Setting.{settingCheck, curveOf, topOf, Valid}
 use Rattle.rules.specs.Curve.{logC4, exponent, toeValue}
 use Rattle.rules.specs.Exact.{Scale, signal, scaleOf, powerFor, VersusPart}
-use Rattle.rules.specs.Decoding.{Less, Greater, Decodes, DecodesPart, tolerance, unit}
+use Rattle.rules.specs.Decoding.{Decodes, DecodesPart, tolerance, unit}
 use Rattle.rules.specs.Encoding.{IsNearest, sceneCheck}
 use Rattle.rules.specs.Float.{valueOf, floatCheck, unitsOf}
 use Rattle.rules.proofs.Values as values
@@ -29,7 +29,7 @@ use Rattle.rules.specs.declared.Pixel.{Pixel}
 use Rattle.rules.specs.declared.Triple.{Triple}
 use Rattle.rules.specs.declared.Found.{Found}
 use Rattle.rules.specs.Refusal.{numberOfCheck}
-use Rattle.rules.specs.WayBack.{pixel, equal3, acesOf, pixelWith, foundCheck}
+use Rattle.rules.specs.WayBack.{equal3, pixelWith, foundCheck}
 use Rattle.rules.specs.Strip.{answerOf}
 use Rattle.decode.specs.Decoded.{decoded}
 use Rattle.decode.proofs.Distance.{decodes-rises, decodes-small}
@@ -39,6 +39,7 @@ use Rattle.aces_inverse.specs.Inverse.{candidate}
 use Rattle.way_back.specs.Candidate.{codeFor, candidatePixel}
 use Rattle.way_back.proofs.Only.{only-candidate-by}
 use Rattle.marked.specs.Marked.{Marked, setting, Allowed, limit, nextTriple}
+use Rattle.rules.specs.Pixels.{pixel, acesOf}
 
 abbrev curve4 : Scale
 curve4 = scaleOf (setting 4 12 0)

@@ -22,9 +22,10 @@ use Rattle.rules.specs.Decoding.{Decodes}
 use Rattle.rules.specs.Encoding.{IsNearest, sceneCheck}
 use Rattle.rules.specs.Float.{floatCheck, unitsOf}
 use Rattle.rules.specs.Matrix.{minus, matrixOf, IsAces}
-use Rattle.rules.specs.WayBack.{triple, pixelWith, foundCheck}
+use Rattle.rules.specs.WayBack.{pixelWith, foundCheck}
 use Rattle.rules.specs.Strip.{answerOf}
 use Rattle.record_conversion.specs.Conversions.{pixelToScene, pixelToAces}
+use Rattle.rules.specs.Pixels.{triple}
 
 abbrev pub setting : (curve width ei : ℕ) → Setting
 setting curve width ei = record { curve = curve; width = width; ei = ei }

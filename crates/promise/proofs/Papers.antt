@@ -13,10 +13,9 @@ use Rattle.rules.specs.declared.Setting.{Setting}
 use Rattle.rules.specs.declared.Triple.{Triple}
 use Rattle.rules.specs.Setting.{topOf, Valid}
 use Rattle.rules.specs.Matrix.{matrixOf}
-use Rattle.rules.specs.Record.{settingOf}
-use Rattle.rules.specs.Contents.{pixelIn, acesRecord}
+use Rattle.rules.specs.Record.{settingOf, pixelIn, acesRecord}
 use Rattle.rules.specs.Strip.{records, recordAt, written}
-use Rattle.rules.specs.WayBack.{acesOf, pixelWith}
+use Rattle.rules.specs.WayBack.{pixelWith, pixelBy}
 use Rattle.rules.proofs.Search.{same-aces, same-found}
 use Rattle.rules.proofs.Settings.{code-passed}
 use Rattle.decode.specs.Decoded.{decoded}
@@ -26,6 +25,7 @@ use Rattle.way_back.specs.Back.{pixelFor}
 use Rattle.strip.proofs.First.{at-start, at-later}
 use Rattle.promise.specs.Words.{HoldsPixel, Accepted, madeBy, made}
 use Rattle.promise.proofs.Strips.{whole-records}
+use Rattle.rules.specs.Pixels.{acesOf}
 
 -- functions that agree on n records write the same
 same-written : (f g : List ℕ → List ℕ) (size n : ℕ) (s : List ℕ) → ((k : ℕ) → k < n → f (recordAt size k s) ≡ g (recordAt size k s))
@@ -56,5 +56,5 @@ module _ (number : Setting → ℕ → ℤ) (near : NearestNumbers number) where
 
   -- THE WAY BACK finds the same pixel, or none, for any three numbers
   pub papers-alone-back : (s : Setting) → Valid s → (a : Triple) → pixelWith (number s) (matrixOf s) (topOf (s .width)) a ≡ pixelFor s a
-  unfolding pixelFor
+  unfolding pixelBy
   papers-alone-back s v a = same-found (number s) (decoded s) (matrixOf s) (topOf (s .width)) a (λ n h. nearest-numbers number near s v n h)

@@ -22,7 +22,7 @@ use Rattle.rules.proofs.Settings.{code-passed}
 use Rattle.decode.proofs.Program.{top-small}
 use Rattle.decode.proofs.Theorems.{decoding}
 use Rattle.encode.proofs.Theorems.{encoded-nearest, encoded-two-thirds}
-use Rattle.record_conversion.specs.Conversions.{channelChecks, channelwise, sceneBits, numberCheck, codeBits, pixelToScene, sceneToPixel}
+use Rattle.record_conversion.specs.Conversions.{sceneBits, codeBits, pixelToScene, sceneToPixel}
 use Rattle.record_conversion.proofs.Good.{Good}
 use Rattle.record_conversion.proofs.Channelwise.{setting-valid, channel-passes, setting-copied, channel-written}
 use Rattle.record_conversion.proofs.SceneBits.{scene-fits, scene-read}
@@ -31,6 +31,7 @@ use Rattle.strip.proofs.Back.{whole-done}
 use Rattle.promise.specs.Words.{Accepted}
 use Rattle.promise.specs.Scenes.{HoldsScene, AcceptedScenes, EachChannel, IsDecoded, DecodedRecord, IsEncoded, EncodedRecord, ConvertedEach}
 use Rattle.promise.proofs.Strips.{written-at, length-at, bytes-at, accepted-good}
+use Rattle.rules.specs.Conversions.{channelChecks, channelwise, numberCheck}
 
 -- ---- any conversion channel by channel: what is written for a channel that passes fits, and is R to the channel
 module _ (a b : ℕ) (check : Setting → ℕ → Check) (one : Setting → ℕ → ℕ) (R : Setting → (from to : ℕ) → Type 0)
@@ -91,7 +92,7 @@ module _ (s : Setting) (v : Valid s) (bits : ℕ) (e : numberCheck s bits ≡ Pa
   code-fits = lt-of-le-of-lt (encoded-nearest s (ofBits numberBytes bits) .in-range) (top-small s v)
 
   code-encoded : IsEncoded s bits (codeBits s bits)
-  code-encoded = record { nearest = encoded-nearest s (ofBits numberBytes bits); within = encoded-two-thirds s v (ofBits numberBytes bits) }
+  code-encoded = record { nearest = encoded-nearest s (ofBits numberBytes bits); two-thirds = encoded-two-thirds s v (ofBits numberBytes bits) }
 
 scene-passes : (r : List ℕ) → HoldsScene r → recordCheck sceneToPixel r ≡ Passed
 unfolding channelChecks

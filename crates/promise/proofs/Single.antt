@@ -22,9 +22,9 @@ use Rattle.rules.specs.declared.Triple.{Triple}
 use Rattle.rules.specs.Refusal.{then, numberOf, numberOfCheck}
 use Rattle.rules.specs.Setting.{settingCheck, codeCheck, Valid}
 use Rattle.rules.specs.Matrix.{matrixOf, IsAces}
-use Rattle.rules.specs.Record.{IsBytes, toBits, ofBits, numberBytes, codeBytes, settingOf, Channels, channelAt, channelsOf, recordOf}
+use Rattle.rules.specs.Record.{IsBytes, toBits, ofBits, numberBytes, codeBytes, settingOf, Channels, channelAt, channelsOf, recordOf, pixelIn, pixelRecord, tripleIn, acesRecord}
 use Rattle.rules.specs.Strip.{recordCheck}
-use Rattle.rules.specs.WayBack.{IsPixel, foundCheck}
+use Rattle.rules.specs.WayBack.{foundCheck}
 use Rattle.rules.proofs.Records.{FitsRecord, value-small, drop-bytes, read-setting, read-channels, write-read, of-to, to-of, bits-fit, length-record}
 use Rattle.rules.proofs.Settings.{both, code-passed, refused-never}
 use Rattle.decode.specs.Decoded.{decoded}
@@ -33,11 +33,12 @@ use Rattle.aces_inverse.proofs.Inverse.{aces-small}
 use Rattle.aces.proofs.Theorems.{decoded-small}
 use Rattle.way_back.specs.Back.{pixelAces, pixelFor}
 use Rattle.way_back.proofs.Theorems.{found-gives, own-found, one-pixel}
-use Rattle.rules.specs.Contents.{pixelIn, pixelRecord, tripleIn, acesRecord}
-use Rattle.record_conversion.specs.Conversions.{channelChecks, pixelFound, pixelToAces, acesToPixel}
+use Rattle.record_conversion.specs.Conversions.{pixelToAces, acesToPixel}
 use Rattle.record_conversion.proofs.Channels.{codes-pixel}
 use Rattle.record_conversion.proofs.Good.{Good}
 use Rattle.promise.specs.Words.{given, HoldsPixel, Without, OnlyPixel, refusalOf}
+use Rattle.rules.specs.Pixels.{IsPixel}
+use Rattle.rules.specs.Conversions.{channelChecks, pixelFound}
 
 -- ---- numbers in eight bytes
 below : (x : ℤ) → natAbs x ≤ 2 ^ 38 → (2 * up x < 256 ^ 8) × (2 * dn x ≤ 256 ^ 8)

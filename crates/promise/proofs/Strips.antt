@@ -15,12 +15,13 @@ use Rattle.rules.specs.Setting.{codeCheck}
 use Rattle.rules.specs.Record.{IsBytes, codeBytes, settingOf, channelAt}
 use Rattle.rules.specs.Strip.{Conversion, recordCheck, records, recordAt, written, scanOf}
 use Rattle.rules.proofs.Records.{take-bytes, drop-bytes, length-record}
-use Rattle.record_conversion.specs.Conversions.{channelChecks, pixelToAces}
+use Rattle.record_conversion.specs.Conversions.{pixelToAces}
 use Rattle.record_conversion.proofs.Good.{Good}
 use Rattle.strip_passes.proofs.Cut.{length-written}
 use Rattle.strip.proofs.First.{at-start, at-later, all-done}
 use Rattle.strip.proofs.Back.{Whole}
 use Rattle.promise.specs.Words.{Accepted, HoldsPixel, made}
+use Rattle.rules.specs.Conversions.{channelChecks}
 
 -- the k-th record that is written is that of the k-th record
 pub written-at : (f : List ℕ → List ℕ) (to : ℕ) → ((r : List ℕ) → length (f r) ≡ to) → (size n : ℕ) (s rest : List ℕ) (k : ℕ) → k < n

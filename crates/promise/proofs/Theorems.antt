@@ -21,19 +21,20 @@ use Rattle.rules.specs.declared.Setting.{Setting}
 use Rattle.rules.specs.declared.Triple.{Triple}
 use Rattle.rules.specs.Refusal.{then, numberOfCheck}
 use Rattle.rules.specs.Result.{Result, done, refusedBy, single, stripResult}
-use Rattle.rules.specs.Setting.{settingCheck}
+use Rattle.rules.specs.Setting.{topOf, settingCheck, Valid}
+use Rattle.rules.specs.Decoding.{Decodes}
 use Rattle.rules.specs.WayBack.{codesFound, foundCheck}
 use Rattle.rules.specs.Exact.{scaleOf}
 use Rattle.rules.specs.ExactRow.{acesTolerance, WithinRow}
 use Rattle.rules.specs.Matrix.{matrixOf, acesNumber}
-use Rattle.rules.specs.Record.{IsBytes, settingOf}
+use Rattle.rules.specs.Record.{IsBytes, settingOf, pixelIn}
 use Rattle.rules.specs.Strip.{Conversion, recordCheck, records, recordAt, written, scanOf, answerOf, outputAfter, resultOf, stripAfter}
 use Rattle.rules.proofs.Results.{number-positive, done-answer, refused-answer}
 use Rattle.rules.proofs.Settings.{code-passed, refused-never}
 use Rattle.rules.proofs.Records.{length-record}
 use Rattle.decode.specs.Decoded.{decoded}
+use Rattle.decode.proofs.Theorems.{decoding}
 use Rattle.aces.proofs.Theorems.{aces-within}
-use Rattle.rules.specs.Contents.{pixelIn}
 use Rattle.record_conversion.specs.Conversions.{pixelToAces, acesToPixel}
 use Rattle.record_conversion.proofs.Good.{Good}
 use Rattle.strip_passes.proofs.FirstPass.{scan-passes, counted}
@@ -48,6 +49,10 @@ use Rattle.promise.proofs.Strips.{written-at, length-at, bytes-at, aces
 
 taken-back : (r : List ℕ) → Good pixelToAces r → (recordCheck acesToPixel (pixelToAces .bytes r) ≡ check.Check.Passed) × (acesToPixel .bytes (pixelToAces .bytes r) ≡ r)
 taken-back r g = (back-passes r g, back-same r g)
+
+-- THE NUMBER that every conversion uses for a code is a decoded number in the rules' sense
+pub number-used : (s : Setting) → Valid s → (n : ℕ) → n ≤ topOf (s .width) → Decodes (scaleOf s) n (decoded s n)
+number-used = decoding
 
 -- a call that converts n records
 called : (c : Conversion) (input output : List ℕ) (n : ℕ) (after : List ℕ) → Done n ≡ answerOf c input output → outputAfter c input output (Done n) ≡ after

@@ -8,10 +8,11 @@ use lib.ListN.{length}
 use Rattle.rules.specs.declared.Answer.the-variants.{Done}
 use Rattle.rules.specs.declared.Check.the-variants.{Passed}
 use Rattle.rules.specs.declared.Setting.{Setting}
-use Rattle.rules.specs.Setting.{topOf, Valid}
+use Rattle.rules.specs.Setting.{Valid}
+use Rattle.rules.specs.Calls.{EncodesBy}
 use Rattle.rules.specs.Exact.{scaleOf}
 use Rattle.rules.specs.Decoding.{Decodes}
-use Rattle.rules.specs.Encoding.{IsNearest, TwoThirds, sceneCheck}
+use Rattle.rules.specs.Encoding.{sceneCheck}
 use Rattle.rules.specs.Record.{IsBytes, codeBytes, numberBytes, ofBits, settingOf, channelAt}
 use Rattle.rules.specs.Strip.{Conversion, recordAt, answerOf, outputAfter}
 use Rattle.decode.specs.Decoded.{decoded}
@@ -45,9 +46,8 @@ DecodedRecord = EachChannel codeBytes numberBytes IsDecoded
 
 -- "each accepted scene number encodes to the code with the nearest decoded number, and lies within
 -- two thirds of a code of the exact curve where it isn't clipped"
-pub record IsEncoded (s : Setting) (bits code : ℕ) : Type 0 where
-  pub nearest : IsNearest (decoded s) (topOf (s .width)) (ofBits numberBytes bits) code
-  pub within : TwoThirds (scaleOf s) (topOf (s .width)) (ofBits numberBytes bits) code
+abbrev pub IsEncoded : (s : Setting) (bits code : ℕ) → Type 0
+IsEncoded s bits code = EncodesBy decoded s (ofBits numberBytes bits) code
 
 abbrev pub EncodedRecord : (scene pixel : List ℕ) → Type 0
 EncodedRecord = EachChannel numberBytes codeBytes IsEncoded

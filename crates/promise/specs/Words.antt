@@ -16,12 +16,12 @@ use Rattle.rules.specs.Setting.{settingCheck, Valid}
 use Rattle.rules.specs.Exact.{scaleOf}
 use Rattle.rules.specs.ExactRow.{acesTolerance, WithinRow}
 use Rattle.rules.specs.Matrix.{matrixOf}
-use Rattle.rules.specs.Record.{IsBytes, numberBytes, ofBits, settingOf, channelAt}
+use Rattle.rules.specs.Record.{IsBytes, numberBytes, ofBits, settingOf, channelAt, pixelIn, pixelRecord, acesRecord}
+use Rattle.rules.specs.Conversions.{pixelToAces}
 use Rattle.rules.specs.Strip.{records, recordAt, written}
-use Rattle.rules.specs.WayBack.{IsPixel, codes, acesOf}
 use Rattle.decode.specs.Decoded.{decoded}
 use Rattle.way_back.specs.Back.{pixelAces}
-use Rattle.rules.specs.Contents.{pixelIn, pixelRecord, acesRecord}
+use Rattle.rules.specs.Pixels.{IsPixel, codes}
 
 -- "It gives the ACES record that holds this setting and the pixel's three ACES numbers."
 abbrev pub given : Setting → Pixel → List ℕ
@@ -40,8 +40,7 @@ pub record Accepted (pixels : List ℕ) (n : ℕ) : Type 0 where
 -- the ACES strip that numbers of the codes make of a pixel strip: "one record for each of its records, in order, without the bytes beyond
 -- the last"
 abbrev pub madeBy : (number : Setting → ℕ → ℤ) → List ℕ → List ℕ
-madeBy number pixels =
-    written (λ r. acesRecord (settingOf r) (acesOf (number (settingOf r)) (matrixOf (settingOf r)) (pixelIn r))) (records 10 (length pixels / 10) pixels)
+madeBy number pixels = written (pixelToAces number .bytes) (records 10 (length pixels / 10) pixels)
 
 -- "The ACES strip made from it": by the decoded numbers. (That it is "what pixel to ACES writes for it into an output long enough" is the
 -- theorem made-is-written.)

@@ -8,12 +8,11 @@ use Rattle.rules.specs.declared.Check.the-variants.{Passed, Refused}
 use Rattle.rules.specs.declared.Refusal.{Refusal}
 use Rattle.rules.specs.declared.Setting.{Setting}
 use Rattle.rules.specs.Setting.{codeCheck}
-use Rattle.rules.specs.WayBack.{IsPixel}
-use Rattle.rules.specs.Record.{codeBytes, channelAt}
+use Rattle.rules.specs.Record.{codeBytes, channelAt, pixelIn}
 use Rattle.rules.specs.Refusal.{then}
 use Rattle.rules.proofs.Settings.{both}
-use Rattle.rules.specs.Contents.{pixelIn}
-use Rattle.record_conversion.specs.Conversions.{channelChecks}
+use Rattle.rules.specs.Pixels.{IsPixel}
+use Rattle.rules.specs.Conversions.{channelChecks}
 
 then-refused : (x next : Check) (why : Refusal) → x ≡ Refused why → x ≡ then x next
 then-refused x next why e = subst (λ (y : Check). y ≡ then y next) (sym e) refl

@@ -15,9 +15,9 @@ use Rattle.rules.specs.Record.{settingOf, Channels, channelAt, channelsOf, reco
 use Rattle.rules.specs.Strip.{recordCheck}
 use Rattle.rules.proofs.Records.{FitsRecord, value-small, drop-bytes, read-setting, read-channels, write-read}
 use Rattle.rules.proofs.Settings.{both}
-use Rattle.record_conversion.specs.Conversions.{channelChecks, channelwise}
 use Rattle.record_conversion.proofs.Channels.{all-pass}
 use Rattle.record_conversion.proofs.Good.{Good}
+use Rattle.rules.specs.Conversions.{channelChecks, channelwise}
 
 -- ---- what is read of what was written, where each channel that passes fits
 module _ (a b : ℕ) (check : Setting → ℕ → Check) (one : Setting → ℕ → ℕ) (fits : (s : Setting) → Valid s → (u : ℕ) → check s u ≡ Passed → one s u < 256 ^ b)

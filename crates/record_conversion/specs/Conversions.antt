@@ -1,83 +1,30 @@
--- The conversions of strips: what each checks of a record after its setting, and what it writes.
+-- The conversions of the rules, with the decoded numbers put in.
 -- Assumes nothing.
-use mathlib.Core.List.{List}
 use Prim.Native.Nat.{ℕ}
-use Rattle.rules.specs.declared.Check.{Check}
 use Rattle.rules.specs.declared.Setting.{Setting}
-use Rattle.rules.specs.declared.Pixel.{Pixel}
-use Rattle.rules.specs.declared.Found.{Found}
-use Rattle.rules.specs.declared.Found as found
-use Rattle.rules.specs.Refusal.{then}
-use Rattle.rules.specs.Setting.{codeCheck}
-use Rattle.rules.specs.Encoding.{sceneCheck}
-use Rattle.rules.specs.Record.{toBits, ofBits, sizeOf, codeBytes, numberBytes, settingOf, channelAt, recordOf}
-use Rattle.rules.specs.Contents.{pixelIn, pixelRecord, tripleIn, acesRecord}
-use Rattle.rules.specs.WayBack.{pixel, foundCheck}
+use Rattle.rules.specs.Conversions as rules
 use Rattle.rules.specs.Strip.{Conversion}
 use Rattle.decode.specs.Decoded.{decoded}
-use Rattle.encode.specs.Encoded.{encoded}
-use Rattle.way_back.specs.Back.{pixelAces, pixelFor}
 use Rattle.record_conversion.specs.declared.Kind.{Kind}
 use Rattle.record_conversion.specs.declared.Kind.the-variants.{PixelToScene, SceneToPixel, PixelToAces, AcesToPixel}
 
--- "red, green and blue (each channel's checks before the next channel)", of channels of a bytes
-unfoldable pub channelChecks : (a : ℕ) → (ℕ → Check) → List ℕ → Check
-channelChecks a check r = then (check (channelAt a r 0)) (then (check (channelAt a r 1)) (check (channelAt a r 2)))
-
--- the record of a setting with channels of b bytes, made one by one from the channels of a bytes of a record
-abbrev pub eachChannel : (a b : ℕ) → Setting → (ℕ → ℕ) → List ℕ → List ℕ
-eachChannel a b s one r = recordOf b s (record { red = one (channelAt a r 0); green = one (channelAt a r 1); blue = one (channelAt a r 2) })
-
--- channel by channel: a channel's check, and what a channel becomes. "A conversion copies the setting."
-abbrev pub channelwise : (a b : ℕ) (check : Setting → ℕ → Check) (one : Setting → ℕ → ℕ) → Conversion
-channelwise a b check one =
-    record {
-      from = sizeOf a;
-      to = sizeOf b;
-      inner = λ r. channelChecks a (check (settingOf r)) r;
-      bytes = λ r. eachChannel a b (settingOf r) (one (settingOf r)) r;
-    }
-
--- "pixel to scene (decoding)"
 abbrev pub sceneBits : Setting → ℕ → ℕ
-sceneBits s n = toBits numberBytes (decoded s n)
-
-abbrev pub pixelToScene : Conversion
-pixelToScene = channelwise codeBytes numberBytes codeCheck sceneBits
-
--- "scene to pixel (encoding)"
-abbrev pub numberCheck : Setting → ℕ → Check
-numberCheck s u = sceneCheck (ofBits numberBytes u)
+sceneBits = rules.sceneBits decoded
 
 abbrev pub codeBits : Setting → ℕ → ℕ
-codeBits s u = encoded s (ofBits numberBytes u)
+codeBits = rules.codeBits decoded
+
+abbrev pub pixelToScene : Conversion
+pixelToScene = rules.pixelToScene decoded
 
 abbrev pub sceneToPixel : Conversion
-sceneToPixel = channelwise numberBytes codeBytes numberCheck codeBits
+sceneToPixel = rules.sceneToPixel decoded
 
--- "pixel to ACES": a pixel "gives the ACES record that holds this setting and the pixel's three ACES numbers"
 abbrev pub pixelToAces : Conversion
-pixelToAces =
-    record {
-      from = sizeOf codeBytes;
-      to = sizeOf numberBytes;
-      inner = λ r. channelChecks codeBytes (codeCheck (settingOf r)) r;
-      bytes = λ r. acesRecord (settingOf r) (pixelAces (settingOf r) (pixelIn r));
-    }
-
--- "ACES to pixel (the way back)": the pixel that gives the record (nothing is written where there is none: refusal 10)
-abbrev pub pixelFound : Found → Pixel
-pixelFound (found.Found.Pixel p) = p
-pixelFound found.Found.Nothing = pixel 0 0 0
+pixelToAces = rules.pixelToAces decoded
 
 abbrev pub acesToPixel : Conversion
-acesToPixel =
-    record {
-      from = sizeOf numberBytes;
-      to = sizeOf codeBytes;
-      inner = λ r. foundCheck (pixelFor (settingOf r) (tripleIn r));
-      bytes = λ r. pixelRecord (settingOf r) (pixelFound (pixelFor (settingOf r) (tripleIn r)));
-    }
+acesToPixel = rules.acesToPixel decoded
 
 -- the conversion that a value names
 abbrev pub conversionOf : Kind → Conversion

@@ -6,9 +6,9 @@ use Prim.Native.Nat.{ℕ}
 use lib.Ieee.{Float}
 use Rattle.rules.specs.declared.Setting.{Setting}
 use Rattle.rules.specs.Result.{Result}
-use Rattle.rules.specs.WayBack.{pixel}
 use Rattle.float_decode.specs.Answer.{decodePixelResult}
 use Rattle.float_encode.specs.Answer.{encodePixelResult}
+use Rattle.rules.specs.Pixels.{pixel}
 
 abbrev pub setting : (curve width ei : ℕ) → Setting
 setting c w e = record { curve = c; width = w; ei = e }

@@ -7,8 +7,7 @@ use native.Mathlib.Omega.{arith}
 use lib.IntN.{ℤ}
 use Rattle.whole.specs.Parts.{up, dn}
 use Rattle.whole.proofs.Floor.{floor-only, half-bounds}
-use Rattle.rules.specs.Fraction.{Fraction, ratio, integer, _+ℚ_, _-ℚ_, Versus, nearest}
-use Rattle.rules.specs.Decoding.{Less, AtMost}
+use Rattle.rules.specs.Fraction.{Fraction, ratio, integer, _+ℚ_, _-ℚ_, Versus, nearest, Less, AtMost}
 
 -- y, which is u - o, is at most x + 1/2, and y + 1 is above that
 pub nearest-is : (x : Fraction) (y : ℤ) (u o : ℕ) → up y + o ≡ u + dn y

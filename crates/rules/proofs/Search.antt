@@ -17,7 +17,8 @@ use Rattle.rules.specs.declared.Found.{Found}
 use Rattle.rules.specs.declared.Found as found
 use Rattle.rules.specs.Choice.{choose}
 use Rattle.rules.specs.Matrix.{Matrix, acesNumber}
-use Rattle.rules.specs.WayBack.{pixel, triple, acesOf, equal, equal3, orElse, firstFound, tried, pixelWith}
+use Rattle.rules.specs.WayBack.{equal, equal3, orElse, firstFound, tried, pixelWith}
+use Rattle.rules.specs.Pixels.{pixel, triple, acesOf}
 
 -- ---- equal numbers
 pub equal-is : (x y : ℤ) → equal x y ≡ true → x ≡ y

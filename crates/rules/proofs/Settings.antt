@@ -12,8 +12,8 @@ use Rattle.rules.specs.declared.Check.the-variants.{Passed, Refused}
 use Rattle.rules.specs.declared.Refusal.{Refusal}
 use Rattle.rules.specs.declared.Refusal.the-variants.{UnknownCurve, UnknownWidth, UnknownEi, CodeAboveTop}
 use Rattle.rules.specs.Choice.{choose, member}
-use Rattle.rules.specs.Refusal.{then}
-use Rattle.rules.specs.Setting.{curves, widthsOf, eisOf, topOf, refuseUnless, settingCheck, codeCheck, Valid}
+use Rattle.rules.specs.Refusal.{then, refuseUnless}
+use Rattle.rules.specs.Setting.{curves, widthsOf, eisOf, topOf, settingCheck, codeCheck, Valid}
 
 -- ---- lists
 abbrev pub forAll : List ℕ → (ℕ → Bool) → Bool

@@ -2,9 +2,9 @@
 -- Assumes nothing.
 use mathlib.Core.Bool.{Bool, true, false}
 use mathlib.Core.Path.{_≡_}
-use Prim.Native.Nat.{ℕ, _^_, _≤_, _<_}
+use Prim.Native.Nat.{ℕ, _^_}
 use lib.IntN.{ℤ}
-use Rattle.rules.specs.Fraction.{Fraction, ratio, whole, integer, _+ℚ_, _-ℚ_, _*ℚ_, nearest}
+use Rattle.rules.specs.Fraction.{Fraction, ratio, whole, integer, _+ℚ_, _-ℚ_, _*ℚ_, nearest, Less, Greater}
 use Rattle.rules.specs.Curve.{inToe, toeValue}
 use Rattle.rules.specs.Exact.{Scale, signal, VersusExact}
 
@@ -15,18 +15,6 @@ unit = ratio 1 (2 ^ 24)
 -- "a whole number less than 1 away from the exact value times 2^24": how far a decoded number may be off, in units
 abbrev pub tolerance : Fraction
 tolerance = ratio 1 1
-
-abbrev pub Less : ℕ → ℕ → Type 0
-Less m n = m < n
-
-abbrev pub Greater : ℕ → ℕ → Type 0
-Greater m n = n < m
-
-abbrev pub AtMost : ℕ → ℕ → Type 0
-AtMost m n = m ≤ n
-
-abbrev pub AtLeast : ℕ → ℕ → Type 0
-AtLeast m n = n ≤ m
 
 -- y is a decoded number of the code n, which is in the toe or not; in the power part it is less than e away
 pub data DecodesPart (e : Fraction) (k : Scale) (n : ℕ) (y : ℤ) : Bool → Type 0 where

@@ -8,10 +8,12 @@ use lib.Signed.{leZ}
 use Rattle.rules.specs.declared.Check.{Check}
 use Rattle.rules.specs.declared.Refusal.the-variants.{SceneOutOfRange}
 use Rattle.rules.specs.Choice.{choose}
-use Rattle.rules.specs.Fraction.{ratio, integer, _*ℚ_}
-use Rattle.rules.specs.Setting.{refuseUnless}
+use Rattle.rules.specs.Fraction.{ratio, integer, _*ℚ_, AtMost, AtLeast}
+use Rattle.rules.specs.declared.Setting.{Setting}
+use Rattle.rules.specs.Setting.{topOf}
 use Rattle.rules.specs.Exact.{Scale, VersusExact}
-use Rattle.rules.specs.Decoding.{unit, AtMost, AtLeast}
+use Rattle.rules.specs.Decoding.{unit}
+use Rattle.rules.specs.Refusal.{refuseUnless}
 
 -- how far x is from the number of a code
 abbrev pub distance : (number : ℕ → ℤ) (x : ℤ) (n : ℕ) → ℕ
@@ -27,6 +29,10 @@ pub record IsNearest (number : ℕ → ℤ) (top : ℕ) (x : ℤ) (n : ℕ) : Ty
 unfoldable pub closest : (number : ℕ → ℤ) (x : ℤ) (top : ℕ) → ℕ
 closest number x zero = 0
 closest number x (suc k) = choose (ltb (distance number x (suc k)) (distance number x (closest number x k))) (suc k) (closest number x k)
+
+-- of a setting, where its codes have these numbers
+abbrev pub codeBy : (number : Setting → ℕ → ℤ) → Setting → ℤ → ℕ
+codeBy number s x = closest (number s) x (topOf (s .width))
 
 -- "For answer n below top, the scene number is at most 2^24 times the exact curve at n + 2/3; for n above 0 it is at least 2^24 times
 -- the exact curve at n - 2/3 (n read as a fraction there)."

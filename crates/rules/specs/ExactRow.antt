@@ -3,9 +3,9 @@
 -- Assumes nothing.
 use Prim.Native.Nat.{ℕ, _*_, _<_}
 use lib.IntN.{ℤ, pos, negsuc}
-use Rattle.rules.specs.Fraction.{Fraction, ratio, whole, integer, _+ℚ_, _-ℚ_, _*ℚ_, _/ℚ_, Versus}
+use Rattle.rules.specs.Fraction.{Fraction, ratio, whole, integer, _+ℚ_, _-ℚ_, _*ℚ_, _/ℚ_, Versus, Less, Greater}
 use Rattle.rules.specs.Exact.{Scale, VersusExact}
-use Rattle.rules.specs.Decoding.{unit, Less, Greater}
+use Rattle.rules.specs.Decoding.{unit}
 use Rattle.rules.specs.Matrix.{Matrix, entry}
 
 -- "less than two units from what the exact curve and matrix give": how far an ACES number may be off,

@@ -10,8 +10,7 @@ use Rattle.rules.specs.declared.Check.{Check}
 use Rattle.rules.specs.declared.Refusal.the-variants.{FloatNotFinite, FloatOutOfRange}
 use Rattle.rules.specs.Choice.{choose}
 use Rattle.rules.specs.Fraction.{Fraction, whole, integer, _*ℚ_, _/ℚ_, Versus, atMost, nearest}
-use Rattle.rules.specs.Refusal.{then}
-use Rattle.rules.specs.Setting.{refuseUnless}
+use Rattle.rules.specs.Refusal.{then, refuseUnless}
 
 -- n / d, or minus it
 abbrev pub signed : Bool → (n d : ℕ) → Fraction

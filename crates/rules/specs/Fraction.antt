@@ -1,7 +1,7 @@
 -- Fractions, written (plus - minus) / over with over above 0, so that a comparison of fractions is one of whole numbers.
 -- Assumes nothing.
 use mathlib.Core.Bool.{Bool}
-use Prim.Native.Nat.{ℕ, _+_, _-_, _*_, _^_}
+use Prim.Native.Nat.{ℕ, _+_, _-_, _*_, _^_, _≤_, _<_}
 use lib.Dec.{leb}
 use lib.IntN.{ℤ, subℕ}
 use lib.Signed.{shrZ}
@@ -41,6 +41,19 @@ x *ℚ y = record { plus = x .plus * y .plus + x .minus * y .minus; minus = x .p
 -- by a fraction above 0
 abbrev pub _/ℚ_ : Fraction → Fraction → Fraction
 x /ℚ y = record { plus = x .plus * y .over; minus = x .minus * y .over; over = x .over * (y .plus - y .minus) }
+
+-- the orders of whole numbers, as relations that a comparison takes
+abbrev pub Less : ℕ → ℕ → Type 0
+Less m n = m < n
+
+abbrev pub Greater : ℕ → ℕ → Type 0
+Greater m n = n < m
+
+abbrev pub AtMost : ℕ → ℕ → Type 0
+AtMost m n = m ≤ n
+
+abbrev pub AtLeast : ℕ → ℕ → Type 0
+AtLeast m n = n ≤ m
 
 -- x R y, for an order or the equality R of whole numbers: the denominators are cleared, and what is taken away on one side is added on the other
 abbrev pub Versus : (ℕ → ℕ → Type 0) → Fraction → Fraction → Type 0

@@ -6,7 +6,10 @@ use lib.Dec.{ltb}
 use lib.IntN.{ℤ, pos, negsuc}
 use lib.ListN.{getD, take, drop}
 use Rattle.rules.specs.declared.Setting.{Setting}
+use Rattle.rules.specs.declared.Pixel.{Pixel}
+use Rattle.rules.specs.declared.Triple.{Triple}
 use Rattle.rules.specs.Choice.{choose}
+use Rattle.rules.specs.Pixels.{pixel, triple}
 
 -- a list of bytes
 abbrev pub IsBytes : List ℕ → Type 0
@@ -72,3 +75,19 @@ channelsOf channel r = record { red = channelAt channel r 0; green = channelAt c
 -- the record of a setting and three channels
 unfoldable pub recordOf : (channel : ℕ) → Setting → Channels → List ℕ
 recordOf channel s c = bytesOf (layout channel) (s .curve ∷ s .width ∷ s .ei ∷ c .red ∷ c .green ∷ c .blue ∷ [])
+
+-- ---- what records hold
+
+-- the pixel of a pixel record, and the record of a pixel
+abbrev pub pixelIn : List ℕ → Pixel
+pixelIn r = pixel (channelAt codeBytes r 0) (channelAt codeBytes r 1) (channelAt codeBytes r 2)
+
+abbrev pub pixelRecord : Setting → Pixel → List ℕ
+pixelRecord s p = recordOf codeBytes s (record { red = p .red .0; green = p .green .0; blue = p .blue .0 })
+
+-- the three numbers of an ACES record, and the record of three numbers
+abbrev pub tripleIn : List ℕ → Triple
+tripleIn r = triple (ofBits numberBytes (channelAt numberBytes r 0)) (ofBits numberBytes (channelAt numberBytes r 1)) (ofBits numberBytes (channelAt numberBytes r 2))
+
+abbrev pub acesRecord : Setting → Triple → List ℕ
+acesRecord s a = recordOf numberBytes s (record { red = toBits numberBytes (a .red .0); green = toBits numberBytes (a .green .0); blue = toBits numberBytes (a .blue .0) })

@@ -1,6 +1,8 @@
 -- 01, "Refused, by the place of the check": the number of each cause.
 -- Assumes nothing.
+use mathlib.Core.Bool.{Bool}
 use Prim.Native.Nat.{ℕ}
+use Rattle.rules.specs.Choice.{choose}
 use Rattle.rules.specs.declared.Refusal.{Refusal}
 use Rattle.rules.specs.declared.Refusal.the-variants.{PartialRecord, ShortOutput, UnknownCurve, UnknownWidth, UnknownEi, CodeAboveTop, SceneOutOfRange, FloatNotFinite, FloatOutOfRange, NoPixel}
 use Rattle.rules.specs.declared.Check.{Check}
@@ -37,3 +39,7 @@ then (Refused r) next = Refused r
 abbrev pub numberOfCheck : Check → ℕ
 numberOfCheck Passed = 0
 numberOfCheck (Refused r) = numberOf r
+
+-- refused by r unless the test passes
+abbrev pub refuseUnless : Bool → Refusal → Check
+refuseUnless test r = choose test Passed (Refused r)

@@ -1,17 +1,15 @@
 -- 01, "Records and settings": the settings there are, their checks, and their codes.
 -- Assumes nothing.
-use mathlib.Core.Bool.{Bool}
 use mathlib.Core.List.{List, [], _∷_, map}
 use mathlib.Core.Path.{_≡_}
 use Prim.Native.Nat.{ℕ, _-_, _^_}
 use lib.Dec.{eqb, leb}
 use Rattle.rules.specs.declared.Setting.{Setting}
 use Rattle.rules.specs.declared.Check.{Check}
-use Rattle.rules.specs.declared.Check.the-variants.{Passed, Refused}
-use Rattle.rules.specs.declared.Refusal.{Refusal}
+use Rattle.rules.specs.declared.Check.the-variants.{Passed}
 use Rattle.rules.specs.declared.Refusal.the-variants.{UnknownCurve, UnknownWidth, UnknownEi, CodeAboveTop}
 use Rattle.rules.specs.Choice.{choose, member}
-use Rattle.rules.specs.Refusal.{then}
+use Rattle.rules.specs.Refusal.{then, refuseUnless}
 use Rattle.rules.specs.Curve.{Curve, logC4, logC3, Row, rows, constantsAt}
 
 -- "Curve is 3 or 4."
@@ -29,10 +27,6 @@ eisOf curve = choose (eqb curve 3) (map (λ (r : Row). r .ei) rows) (0 ∷ [])
 -- "The top code of width w is top = 2^w - 1"
 abbrev pub topOf : ℕ → ℕ
 topOf width = 2 ^ width - 1
-
--- refused by r unless the test passes
-abbrev pub refuseUnless : Bool → Refusal → Check
-refuseUnless test r = choose test Passed (Refused r)
 
 -- refusals 3, 4 and 5, in this order
 unfoldable pub settingCheck : Setting → Check

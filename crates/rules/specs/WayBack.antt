@@ -1,9 +1,8 @@
--- 01, "ACES and the way back": the ACES numbers that a pixel gives, and the pixel that gives three numbers. Of a setting these need the
--- decoded number of each code, the matrix, and the top code.
+-- 01, "ACES and the way back": the pixel that gives three numbers. Of a setting it needs the decoded number of each code, the matrix, and the
+-- top code.
 -- Assumes nothing.
 use mathlib.Core.Bool.{Bool, false}
-use mathlib.Core.List.{List, [], _∷_}
-use mathlib.Core.Path.{_≡_}
+use mathlib.Core.List.{List, []}
 use Prim.Native.Nat.{ℕ, zero, suc}
 use lib.IntN.{ℤ}
 use lib.Signed.{leZ}
@@ -16,31 +15,9 @@ use Rattle.rules.specs.declared.Triple.{Triple}
 use Rattle.rules.specs.declared.Found.{Found}
 use Rattle.rules.specs.declared.Found as found
 use Rattle.rules.specs.Choice.{choose}
-use Rattle.rules.specs.Setting.{codeCheck}
-use Rattle.rules.specs.Matrix.{Matrix, acesNumber}
-
--- "A pixel of a valid setting is three codes that each pass the channel checks on codes."
-pub record IsPixel (s : Setting) (p : Pixel) : Type 0 where
-  pub red : codeCheck s (p .red .0) ≡ Passed
-  pub green : codeCheck s (p .green .0) ≡ Passed
-  pub blue : codeCheck s (p .blue .0) ≡ Passed
-
--- three codes, three ACES numbers
-abbrev pub pixel : (r g b : ℕ) → Pixel
-pixel r g b = record { red = record { 0 = r }; green = record { 0 = g }; blue = record { 0 = b } }
-
-abbrev pub codes : Pixel → List ℕ
-codes p = p .red .0 ∷ p .green .0 ∷ p .blue .0 ∷ []
-
-abbrev pub triple : (x y z : ℤ) → Triple
-triple x y z = record { red = record { 0 = x }; green = record { 0 = y }; blue = record { 0 = z } }
-
--- "the pixel's three ACES numbers"
-abbrev pub acesOf : (number : ℕ → ℤ) → Matrix → Pixel → Triple
-acesOf number m p =
-    triple (acesNumber m 0 (number (p .red .0)) (number (p .green .0)) (number (p .blue .0)))
-    (acesNumber m 1 (number (p .red .0)) (number (p .green .0)) (number (p .blue .0)))
-    (acesNumber m 2 (number (p .red .0)) (number (p .green .0)) (number (p .blue .0)))
+use Rattle.rules.specs.Setting.{topOf}
+use Rattle.rules.specs.Matrix.{Matrix, matrixOf}
+use Rattle.rules.specs.Pixels.{pixel, codes, acesOf}
 
 -- a test that two are equal
 abbrev pub equal : ℤ → ℤ → Bool
@@ -66,6 +43,10 @@ tried number m a p = choose (equal3 a (acesOf number m p)) (found.Found.Pixel p)
 
 unfoldable pub pixelWith : (number : ℕ → ℤ) → Matrix → (top : ℕ) → Triple → Found
 pixelWith number m top a = firstFound (λ r. firstFound (λ g. firstFound (λ b. tried number m a (pixel r g b)) top) top) top
+
+-- the pixel of a setting that gives three ACES numbers, where codes have these numbers
+unfoldable pub pixelBy : (number : Setting → ℕ → ℤ) → Setting → Triple → Found
+pixelBy number s a = pixelWith (number s) (matrixOf s) (topOf (s .width)) a
 
 -- the codes of what is found
 abbrev pub codesFound : Found → List ℕ

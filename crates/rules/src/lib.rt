@@ -36,6 +36,12 @@ pub enum Found {
     Nothing,
 }
 
+// What becomes of a record that the lister reads: three ACES numbers, or the refusal.
+pub enum Outcome {
+    Aces(Triple),
+    Refused(Refusal),
+}
+
 // Why a conversion refuses: the rows of the table "Refused, by the place of the check".
 pub enum Refusal {
     PartialRecord,

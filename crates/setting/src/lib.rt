@@ -1,8 +1,8 @@
 // The checks of a setting and of a code, and the numbers of the refusals.
 ghost use mathlib.Core.Path.{_≡_};
-ghost use Rattle.rules.specs.Refusal.{numberOf, then};
+ghost use Rattle.rules.specs.Refusal.{numberOf, then, refuseUnless};
 ghost use Rattle.rules.specs.declared.Refusal.the-variants.{UnknownWidth, UnknownEi};
-ghost use Rattle.rules.specs.Setting.{topOf, refuseUnless, settingCheck, codeCheck, Valid};
+ghost use Rattle.rules.specs.Setting.{topOf, settingCheck, codeCheck, Valid};
 ghost use Rattle.setting.specs.Same.{sameSetting};
 use curves::CurveName;
 use curves::log_c3::LogC3;

@@ -17,11 +17,12 @@ use Rattle.rules.proofs.Records.{length-record}
 use Rattle.rules.proofs.Settings.{code-passed}
 use Rattle.decode.proofs.Limit.{decoded-passes}
 use Rattle.encode.proofs.Theorems.{encode-decoded}
-use Rattle.record_conversion.specs.Conversions.{sceneBits, numberCheck, codeBits, pixelToScene, sceneToPixel}
+use Rattle.record_conversion.specs.Conversions.{sceneBits, codeBits, pixelToScene, sceneToPixel}
 use Rattle.record_conversion.proofs.Good.{Good}
 use Rattle.record_conversion.proofs.Channelwise.{TakenBack, record-passes, record-back}
 use Rattle.record_conversion.proofs.SceneBits.{scene-fits, scene-read}
 use Rattle.strip.proofs.Back as back
+use Rattle.rules.specs.Conversions.{numberCheck}
 
 -- a code's number, in its bytes, is read back, passes, and is encoded to the code
 code-back : (s : Setting) → Valid s → (n : ℕ) → codeCheck s n ≡ Passed → TakenBack codeBytes numberBytes codeCheck numberCheck sceneBits codeBits s n

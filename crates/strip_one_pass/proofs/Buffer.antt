@@ -14,17 +14,18 @@ use Rattle.rules.specs.declared.Found.{Found}
 use Rattle.rules.specs.declared.Found as found
 use Rattle.rules.specs.declared.Refusal.{Refusal}
 use Rattle.rules.specs.declared.Setting.{Setting}
-use Rattle.rules.specs.Contents.{pixelRecord}
 use Rattle.rules.specs.Strip.{records, written}
 use Rattle.rules.specs.WayBack.{foundCheck}
 use Rattle.rules.proofs.Settings.{refused-never}
 use Rattle.record_conversion.specs.declared.Kind.the-variants.{AcesToPixel}
-use Rattle.record_conversion.specs.Conversions.{acesToPixel, pixelFound}
+use Rattle.record_conversion.specs.Conversions.{acesToPixel}
 use Rattle.record_conversion.proofs.EveryKind.{kind-long}
 use Rattle.strip_passes.proofs.Cut.{length-written}
 use Rattle.strip_passes.proofs.FirstPass.{done-is, never}
 use Rattle.strip_passes.proofs.SecondPass.{Filled}
 use Rattle.strip_one_pass.specs.Kept.{kept, Kept}
+use Rattle.rules.specs.Record.{pixelRecord}
+use Rattle.rules.specs.Conversions.{pixelFound}
 
 pub kept-passed : (s : Setting) (f : Found) (out : List ℕ) {after : List ℕ} → after ≡ kept s f out → foundCheck f ≡ Passed → after ≡ pixelRecord s (pixelFound f)
 kept-passed s (found.Found.Pixel p) out h e = h

@@ -9,9 +9,9 @@ use Rattle.rules.specs.declared.Answer.the-variants.{Done}
 use Rattle.rules.specs.declared.Found.{Found}
 use Rattle.rules.specs.declared.Found as found
 use Rattle.rules.specs.declared.Setting.{Setting}
-use Rattle.rules.specs.Contents.{pixelRecord}
 use Rattle.rules.specs.Strip.{records, written}
 use Rattle.record_conversion.specs.Conversions.{acesToPixel}
+use Rattle.rules.specs.Record.{pixelRecord}
 
 -- a stretch after a record: the record of the pixel that was found, or what stood there
 abbrev pub kept : Setting → Found → List ℕ → List ℕ

@@ -2,13 +2,13 @@
 ghost use mathlib.Core.Path.{_≡_};
 ghost use Prim.Native.Nat.{_*_, _≤_};
 ghost use lib.ListN.{length};
-ghost use Rattle.rules.specs.Contents.{tripleIn};
 ghost use Rattle.rules.specs.Strip.{scanOf, outputAfter};
 ghost use Rattle.rules.specs.WayBack.{foundCheck};
 ghost use Rattle.decode.specs.Ready.{Ready};
 ghost use Rattle.way_back.specs.Back.{pixelFor};
 ghost use Rattle.record_conversion.specs.Conversions.{acesToPixel};
 ghost use Rattle.strip_one_pass.specs.Kept.{kept, Kept};
+ghost use Rattle.rules.specs.Record.{tripleIn};
 use decode::decoder::Decoder;
 use rules::Answer;
 use rules::Check;

@@ -12,7 +12,7 @@ use lib.Signed.{ltZ}
 use lib.ListN.{length, length-append}
 use borrow.Author.Tests.{ltb-true, ltb-false, lt-ltb, le-ltb}
 use Rattle.rules.specs.Choice.{choose}
-use Rattle.text.specs.Decimal.{digit, decimalIn, decimal, signed}
+use Rattle.rules.specs.Decimal.{digit, decimalIn, decimal, signed}
 
 -- of more places than are needed none is used
 any-places : (k j n : ℕ) → n ≤ k → n ≤ j → decimalIn k n ≡ decimalIn j n

@@ -8,8 +8,8 @@ use native.Mathlib.Omega.{arith}
 use lib.Dec.{ltb}
 use lib.ListN.{length, getD, length-append, List·getD-append}
 use borrow.Author.Tests.{ltb-true, ltb-false}
-use Rattle.text.specs.Decimal.{digit, decimal}
 use Rattle.text.proofs.Digits.{decimal-small, decimal-large}
+use Rattle.rules.specs.Decimal.{digit, decimal}
 
 -- ---- the number that digits write
 abbrev pub numberIn : (sum : ℕ) → List ℕ → ℕ

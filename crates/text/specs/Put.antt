@@ -5,10 +5,6 @@ use mathlib.Core.Path.{_≡_}
 use Prim.Native.Nat.{ℕ, _+_, _≤_}
 use lib.ListN.{length, take, drop}
 
--- a word and the byte behind it
-abbrev pub followed : (word : List ℕ) (byte : ℕ) → List ℕ
-followed w b = w ++ (b ∷ [])
-
 -- there is room for the text from `at` on
 pub record Room (text buffer : List ℕ) (at : ℕ) : Type 0 where
   pub within : at + length text ≤ length buffer

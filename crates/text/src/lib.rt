@@ -1,7 +1,8 @@
 // Text in a buffer: bytes, words and decimal numbers, put one behind the other.
 ghost use mathlib.Core.List.{[], _∷_};
-ghost use Rattle.text.specs.Decimal.{decimal, signed};
-ghost use Rattle.text.specs.Put.{followed, Room, Put};
+ghost use Rattle.text.specs.Put.{Room, Put};
+ghost use Rattle.rules.specs.Decimal.{decimal, signed};
+ghost use Rattle.rules.specs.Lister.{followed};
 
 const MINUS: u8 = 45;
 

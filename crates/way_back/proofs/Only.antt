@@ -17,7 +17,7 @@ use Rattle.rules.specs.Exact.{scaleOf}
 use Rattle.rules.specs.Decoding.{Decodes}
 use Rattle.rules.specs.Matrix.{matrixOf, IsAces}
 use Rattle.rules.specs.Choice.{choose}
-use Rattle.rules.specs.WayBack.{IsPixel, equal3, tried, pixelWith, foundCheck}
+use Rattle.rules.specs.WayBack.{equal3, tried, pixelWith, foundCheck, pixelBy}
 use Rattle.rules.proofs.Settings.{code-passes, refused-never}
 use Rattle.rules.proofs.Search as search
 use Rattle.decode.specs.Decoded.{decoded}
@@ -30,6 +30,7 @@ use Rattle.aces_inverse.proofs.Inverse.{aces-small, candidate-near}
 use Rattle.way_back.specs.Back.{pixelAces, pixelFor}
 use Rattle.way_back.specs.Candidate.{codeFor, candidatePixel, allInReach}
 use Rattle.way_back.proofs.Reach.{given-reached, reached-given}
+use Rattle.rules.specs.Pixels.{IsPixel}
 
 -- ---- by any numbers that the rules allow for the codes of the setting
 module _ (s : Setting) (v : Valid s) (number : ℕ → ℤ) (allowed : (n : ℕ) → n ≤ topOf (s .width) → Decodes (scaleOf s) n (number n)) (a : Triple) (q : Pixel)
@@ -95,11 +96,11 @@ module _ (s : Setting) (v : Valid s) (a : Triple) where
   unlike e f = absurd (subst T (sym e ∙ f) tt)
 
   pub out-of-reach : allInReach a ≡ false → found.Found.Nothing ≡ pixelFor s a
-  unfolding pixelFor
+  unfolding pixelBy
   out-of-reach e = sym (search.none-found (decoded s) (matrixOf s) (topOf (s .width)) a (λ q g. unlike (reached q g) e))
 
   pub trying-finds : tried (decoded s) (matrixOf s) a (candidatePixel s a) ≡ pixelFor s a
-  unfolding pixelFor
+  unfolding pixelBy
   trying-finds = go (equal3 a (pixelAces s (candidatePixel s a))) refl
     where
       go : (x : Bool) → equal3 a (pixelAces s (candidatePixel s a)) ≡ x → choose x (found.Found.Pixel (candidatePixel s a)) found.Found.Nothing ≡ pixelWith (decoded s) (matrixOf s) (topOf (s .width)) a
@@ -114,7 +115,7 @@ module _ (s : Setting) (v : Valid s) (a : Triple) where
   Found′ f = (Given (a .red .0) (a .green .0) (a .blue .0)) × (found.Found.Pixel (candidatePixel s a) ≡ f)
 
   pub passed-found : foundCheck (pixelFor s a) ≡ Passed → Found′ (pixelFor s a)
-  unfolding pixelFor
+  unfolding pixelBy
   passed-found e = go (pixelFor s a) refl e
     where
       go : (f : Found) → pixelFor s a ≡ f → foundCheck f ≡ Passed → Found′ f

@@ -2,6 +2,7 @@
 -- Assumes nothing.
 use mathlib.Core.Path.{_≡_, refl, sym, ap, _∙_, subst}
 use Prim.Native.Nat.{ℕ}
+use Rattle.rules.specs.WayBack.{pixelBy}
 use Rattle.rules.specs.declared.Pixel.{Pixel}
 use Rattle.rules.specs.declared.Setting.{Setting}
 use Rattle.rules.specs.declared.Triple.{Triple}
@@ -9,13 +10,13 @@ use Rattle.rules.specs.declared.Found.{Found}
 use Rattle.rules.specs.declared.Found as found
 use Rattle.rules.specs.Setting.{topOf, Valid}
 use Rattle.rules.specs.Matrix.{matrixOf}
-use Rattle.rules.specs.WayBack.{IsPixel}
 use Rattle.rules.proofs.Search as search
 use Rattle.rules.proofs.Settings.{code-passed, code-passes}
 use Rattle.decode.specs.Decoded.{decoded}
 use Rattle.way_back.specs.Back.{pixelAces, pixelFor}
 use Rattle.way_back.specs.Candidate.{candidatePixel}
 use Rattle.way_back.proofs.Only.{PixelGives, only-candidate}
+use Rattle.rules.specs.Pixels.{IsPixel}
 
 -- as the rules' words say it
 to-gives : (s : Setting) (a : Triple) (p : Pixel) → IsPixel s p → pixelAces s p ≡ a → PixelGives s a p
@@ -29,7 +30,7 @@ to-gives s a p i e =
 
 -- what is found is a pixel of the setting that gives the numbers
 pub found-gives : (s : Setting) (a : Triple) (p : Pixel) → pixelFor s a ≡ found.Found.Pixel p → IsPixel s p × (pixelAces s p ≡ a)
-unfolding pixelFor
+unfolding pixelBy
 found-gives s a p e =
     let g = search.found-gives (decoded s) (matrixOf s) (topOf (s .width)) a p e in (
       record { red = code-passes s (p .red .0) (g .red); green = code-passes s (p .green .0) (g .green); blue = code-passes s (p .blue .0) (g .blue) },
@@ -44,7 +45,7 @@ module _ (s : Setting) (v : Valid s) where
 
   -- a pixel is found from its own ACES numbers
   pub own-found : (p : Pixel) → IsPixel s p → pixelFor s (pixelAces s p) ≡ found.Found.Pixel p
-  unfolding pixelFor
+  unfolding pixelBy
   own-found p i =
       search.gives-found (decoded s) (matrixOf s) (topOf (s .width)) (pixelAces s p) p
       (λ q g. only-candidate s v (pixelAces s p) q g ∙ sym (only-candidate s v (pixelAces s p) p (to-gives s (pixelAces s p) p i refl)))

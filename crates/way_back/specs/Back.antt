@@ -5,22 +5,22 @@ use Rattle.rules.specs.declared.Setting.{Setting}
 use Rattle.rules.specs.declared.Pixel.{Pixel}
 use Rattle.rules.specs.declared.Triple.{Triple}
 use Rattle.rules.specs.declared.Found.{Found}
-use Rattle.rules.specs.Refusal.{then, numberOf}
-use Rattle.rules.specs.Result.{Result, done, refusedBy, single}
-use Rattle.rules.specs.Setting.{topOf, settingCheck}
-use Rattle.rules.specs.Matrix.{matrixOf}
-use Rattle.rules.specs.WayBack.{codes, acesOf, pixelWith, codesFound, foundCheck}
+use Rattle.rules.specs.Refusal.{numberOf}
+use Rattle.rules.specs.Result.{Result, done, refusedBy}
+use Rattle.rules.specs.WayBack.{pixelBy}
+use Rattle.rules.specs.Calls.{wayBackBy}
 use Rattle.decode.specs.Decoded.{decoded}
 use Rattle.way_back.specs.declared.Back.{Back}
 use Rattle.way_back.specs.declared.Back as back
+use Rattle.rules.specs.Pixels.{codes, acesBy}
 
 -- the ACES numbers of a pixel of a setting
 abbrev pub pixelAces : Setting → Pixel → Triple
-pixelAces s p = acesOf (decoded s) (matrixOf s) p
+pixelAces = acesBy decoded
 
 -- the pixel of a setting that gives three ACES numbers
-unfoldable pub pixelFor : Setting → Triple → Found
-pixelFor s a = pixelWith (decoded s) (matrixOf s) (topOf (s .width)) a
+abbrev pub pixelFor : Setting → Triple → Found
+pixelFor = pixelBy decoded
 
 -- the number and the values of each case of the answer: the codes of the pixel
 abbrev pub backResult : Back → Result ℕ
@@ -29,4 +29,4 @@ backResult (back.Back.Refused why) = refusedBy (numberOf why) 0
 
 -- the codes of the pixel that gives the numbers, or the refusal of the first check that fails: 3, 4, 5, then 10
 unfoldable pub wayBackResult : Setting → Triple → Result ℕ
-wayBackResult s a = single (then (settingCheck s) (foundCheck (pixelFor s a))) (codesFound (pixelFor s a))
+wayBackResult = wayBackBy decoded

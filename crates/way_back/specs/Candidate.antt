@@ -8,9 +8,9 @@ use Rattle.rules.specs.declared.Setting.{Setting}
 use Rattle.rules.specs.declared.Pixel.{Pixel}
 use Rattle.rules.specs.declared.Triple.{Triple}
 use Rattle.rules.specs.Choice.{choose}
-use Rattle.rules.specs.WayBack.{pixel}
 use Rattle.encode.specs.Encoded.{encoded}
 use Rattle.aces_inverse.specs.Inverse.{candidate}
+use Rattle.rules.specs.Pixels.{pixel}
 
 -- a code of it
 abbrev pub codeFor : Setting → (i : ℕ) → Triple → ℕ

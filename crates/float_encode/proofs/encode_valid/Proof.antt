@@ -6,7 +6,6 @@ use Rattle.rules.specs.declared.Check.the-variants.{Passed}
 use Rattle.rules.specs.declared.Pixel.{Pixel}
 use Rattle.rules.specs.declared.Scene.{Scene}
 use Rattle.rules.specs.Result.{done}
-use Rattle.rules.specs.WayBack.{codes}
 use Rattle.rules.specs.Encoding.{sceneCheck}
 use lib.Ieee.{Float}
 use Rattle.float_unit.specs.declared.Reading.{Reading}
@@ -15,6 +14,7 @@ use Rattle.float_unit.proofs.Readings.{check-is, scene-is}
 use Rattle.float_unit.proofs.Range.{units-pass}
 use Rattle.float_encode.proofs.encode_valid.Statement.{statement}
 use Rattle.float_encode.proofs.encode_valid.Tie as tie
+use Rattle.rules.specs.Pixels.{codes}
 
 -- the readings of the channels that pass
 red-read : (c : tie.After-red) → readAnswer (c .before .before .before .args .f .red) ≡ Reading.Scene (c .red .given .0 .0)

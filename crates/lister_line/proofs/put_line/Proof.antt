@@ -4,14 +4,14 @@ use mathlib.Core.List.{List, _++_}
 use Prim.Native.Nat.{ℕ}
 use denote.Ref.{now}
 use borrow.Author.Needs.{needs}
-use Rattle.text.specs.Decimal.{decimal}
-use Rattle.text.specs.Put.{followed, Room}
+use Rattle.text.specs.Put.{Room}
 use Rattle.text.proofs.Putting.{room-first, room-next, put-both}
-use Rattle.lister_line.specs.declared.Outcome.{Outcome}
-use Rattle.lister_line.specs.Line.{lineOf, words}
 use Rattle.lister_line.proofs.Parts.{line-parts}
 use Rattle.lister_line.proofs.put_line.Statement.{statement}
 use Rattle.lister_line.proofs.put_line.Tie as tie
+use Rattle.rules.specs.Decimal.{decimal}
+use Rattle.rules.specs.Lister.{followed, lineOf, words}
+use Rattle.rules.specs.declared.Outcome.{Outcome}
 
 abbrev index : tie.Start → List ℕ
 index s = followed (decimal (s .args .index)) 32

@@ -6,12 +6,12 @@ use mir.Syntax.{w64}
 use mir.Val.{SFits}
 use borrow.Author.Needs.{needs}
 use Rattle.whole.proofs.Words.{read-back}
-use Rattle.text.specs.Decimal.{signed}
-use Rattle.text.specs.Put.{followed, Room}
+use Rattle.text.specs.Put.{Room}
 use Rattle.text.proofs.Putting.{room-first, room-next, put-both}
-use Rattle.lister_line.specs.Line.{ok}
 use Rattle.lister_line.proofs.put_ok.Statement.{statement}
 use Rattle.lister_line.proofs.put_ok.Tie as tie
+use Rattle.rules.specs.Decimal.{signed}
+use Rattle.rules.specs.Lister.{followed, ok}
 
 abbrev word : List ℕ
 word = followed ok 32

@@ -4,12 +4,11 @@ use mathlib.Core.List.{List}
 use Prim.Native.Nat.{ℕ}
 use borrow.Author.Needs.{needs}
 use Rattle.rules.specs.Refusal.{numberOf}
-use Rattle.text.specs.Decimal.{decimal}
-use Rattle.text.specs.Put.{followed}
 use Rattle.text.proofs.Putting.{room-next, put-both}
-use Rattle.lister_line.specs.Line.{refused}
 use Rattle.lister_line.proofs.put_refused.Statement.{statement}
 use Rattle.lister_line.proofs.put_refused.Tie as tie
+use Rattle.rules.specs.Decimal.{decimal}
+use Rattle.rules.specs.Lister.{followed, refused}
 
 abbrev word : List ℕ
 word = followed refused 32

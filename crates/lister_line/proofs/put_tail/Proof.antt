@@ -4,13 +4,13 @@ use mathlib.Core.List.{List, _++_}
 use Prim.Native.Nat.{ℕ}
 use denote.Ref.{now}
 use borrow.Author.Needs.{needs}
-use Rattle.text.specs.Decimal.{decimal}
-use Rattle.text.specs.Put.{followed, Room}
+use Rattle.text.specs.Put.{Room}
 use Rattle.text.proofs.Putting.{put-none, room-first, room-next, put-both}
-use Rattle.lister_line.specs.Line.{tail}
 use Rattle.lister_line.proofs.Parts.{tail-none, tail-some}
 use Rattle.lister_line.proofs.put_tail.Statement.{statement}
 use Rattle.lister_line.proofs.put_tail.Tie as tie
+use Rattle.rules.specs.Decimal.{decimal}
+use Rattle.rules.specs.Lister.{followed, tail}
 
 abbrev word : List ℕ
 word = followed tail 32

@@ -5,16 +5,15 @@ use denote.Ref.{now}
 use borrow.Author.Needs.{needs}
 use Rattle.rules.specs.declared.Check.the-variants.{Passed}
 use Rattle.rules.specs.declared.Setting.{Setting}
-use Rattle.rules.specs.Record.{settingOf}
+use Rattle.rules.specs.Record.{settingOf, pixelIn}
 use Rattle.rules.specs.Setting.{settingCheck}
-use Rattle.rules.specs.WayBack.{IsPixel}
 use Rattle.way_back.specs.Back.{pixelAces}
-use Rattle.rules.specs.Contents.{pixelIn}
 use Rattle.record_conversion.specs.Conversions.{pixelToAces}
 use Rattle.record_conversion.proofs.Channels.{codes-pixel}
 use Rattle.lister_text.proofs.Judged.{code-refused, all-passed}
 use Rattle.lister_text.proofs.judge_valid.Statement.{statement}
 use Rattle.lister_text.proofs.judge_valid.Tie as tie
+use Rattle.rules.specs.Pixels.{IsPixel}
 
 valid : (s : tie.Start) → settingCheck (settingOf (now (s .args .r))) ≡ Passed
 valid s = ap settingCheck (sym (s .pre .1 .0)) ∙ s .pre .0

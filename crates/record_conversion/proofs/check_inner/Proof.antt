@@ -8,10 +8,11 @@ use Rattle.rules.specs.Setting.{codeCheck}
 use Rattle.rules.specs.WayBack.{foundCheck}
 use Rattle.way_back.specs.Back.{pixelFor}
 use Rattle.record_conversion.specs.declared.Kind.{Kind}
-use Rattle.rules.specs.Contents.{tripleIn}
-use Rattle.record_conversion.specs.Conversions.{channelChecks, numberCheck, conversionOf}
+use Rattle.record_conversion.specs.Conversions.{conversionOf}
 use Rattle.record_conversion.proofs.check_inner.Statement.{statement}
 use Rattle.record_conversion.proofs.check_inner.Tie as tie
+use Rattle.rules.specs.Record.{tripleIn}
+use Rattle.rules.specs.Conversions.{channelChecks, numberCheck}
 
 check-codes-requires : tie.Need-check-codes-requires
 check-codes-requires c κs = (c .before .before .before .pre .0 .valid, c .before .before .before .pre .1 .1 ∙ ap (λ (x : Kind). conversionOf x .from) (c .enum-told .given .1))

@@ -8,10 +8,11 @@ use Rattle.rules.specs.Setting.{codeCheck}
 use Rattle.rules.specs.WayBack.{foundCheck}
 use Rattle.way_back.specs.Back.{pixelAces, pixelFor}
 use Rattle.record_conversion.specs.declared.Kind.{Kind}
-use Rattle.rules.specs.Contents.{pixelIn, tripleIn, pixelRecord, acesRecord}
-use Rattle.record_conversion.specs.Conversions.{channelChecks, eachChannel, sceneBits, codeBits, numberCheck, pixelFound, conversionOf}
+use Rattle.record_conversion.specs.Conversions.{sceneBits, codeBits, conversionOf}
 use Rattle.record_conversion.proofs.write_record.Statement.{statement}
 use Rattle.record_conversion.proofs.write_record.Tie as tie
+use Rattle.rules.specs.Record.{pixelIn, tripleIn, pixelRecord, acesRecord}
+use Rattle.rules.specs.Conversions.{channelChecks, eachChannel, numberCheck, pixelFound}
 
 write-scene-requires : tie.Need-write-scene-requires
 write-scene-requires c κs =

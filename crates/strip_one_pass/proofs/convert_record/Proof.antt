@@ -3,10 +3,10 @@
 use mathlib.Core.Path.{_≡_, refl, ap, sym, _∙_}
 use borrow.Author.Needs.{needs}
 use denote.Ref.{now}
-use Rattle.rules.specs.Contents.{tripleIn}
 use Rattle.way_back.specs.Back.{pixelFor}
 use Rattle.strip_one_pass.proofs.convert_record.Statement.{statement}
 use Rattle.strip_one_pass.proofs.convert_record.Tie as tie
+use Rattle.rules.specs.Record.{tripleIn}
 
 found : (c : tie.After-find) → pixelFor (c .before .before .before .before .args .s) (tripleIn (now (c .before .before .before .before .args .r))) ≡ c .find .result
 found c = sym (c .find .ensures ∙ ap (pixelFor (c .before .before .before .before .args .s)) (c .before .triple-in .ensures))

@@ -13,8 +13,7 @@ use borrow.Author.Needs.{needs}
 use borrow.Author.Tests.{not-false}
 use Rattle.rules.specs.declared.Check.the-variants.{Passed}
 use Rattle.rules.specs.declared.Setting.{Setting}
-use Rattle.rules.specs.Contents.{tripleIn, pixelRecord}
-use Rattle.rules.specs.Record.{settingOf}
+use Rattle.rules.specs.Record.{settingOf, tripleIn, pixelRecord}
 use Rattle.rules.specs.Setting.{settingCheck}
 use Rattle.rules.specs.Strip.{recordCheck}
 use Rattle.rules.specs.WayBack.{foundCheck}
@@ -22,7 +21,7 @@ use Rattle.setting.proofs.Same.{same-is}
 use Rattle.decode.specs.Ready.{Ready}
 use Rattle.way_back.specs.Back.{pixelFor}
 use Rattle.record_conversion.specs.declared.Kind.the-variants.{AcesToPixel}
-use Rattle.record_conversion.specs.Conversions.{acesToPixel, pixelFound}
+use Rattle.record_conversion.specs.Conversions.{acesToPixel}
 use Rattle.record_conversion.proofs.EveryKind.{kind-long}
 use Rattle.strip_passes.proofs.Begin.{first-valid}
 use Rattle.strip_passes.proofs.Cut.{cut, length-cut, room-at}
@@ -31,6 +30,7 @@ use Rattle.strip_passes.proofs.SecondPass.{Filled, filled-start, filled-more}
 use Rattle.strip_one_pass.proofs.Buffer.{kept-passed, refused-keeps, all-kept}
 use Rattle.strip_one_pass.proofs.fill.Statement.{statement}
 use Rattle.strip_one_pass.proofs.fill.Tie as tie
+use Rattle.rules.specs.Conversions.{pixelFound}
 
 abbrev Inv-loop : tie.InvT-loop
 Inv-loop input n buffer₀ s₀ d₀ t₀ i₀ buffer s d t i = Scanned acesToPixel n input i × Filled acesToPixel n input buffer₀ i buffer × Ready s d t

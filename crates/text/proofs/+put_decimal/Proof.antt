@@ -6,7 +6,6 @@ use native.Mathlib.Omega.{arith}
 use borrow.Author.Needs.{needs}
 use borrow.Fn.Kinds.{In}
 use borrow.Fn.PlainCycle.{Measures, is, falls, and}
-use Rattle.text.specs.Decimal.{digit, decimal}
 use Rattle.text.specs.Put.{Room}
 use Rattle.text.proofs.Digits.{decimal-small, decimal-large}
 use Rattle.text.proofs.Putting.{room-first, room-next, put-both}
@@ -16,6 +15,7 @@ use Rattle.text.proofs.+put_decimal.Lts-put_decimal as put-decimal-lts
 use Rattle.text.proofs.put_byte.Reads as put-byte-reads
 use Rattle.text.proofs.+put_decimal.{statement}
 use Rattle.text.proofs.+put_decimal.Tie.{close}
+use Rattle.rules.specs.Decimal.{digit, decimal}
 
 abbrev μ-put-decimal : Measures 1 put-decimal-kinds.ps ℕ
 μ-put-decimal κs a = a .1 .1 .0

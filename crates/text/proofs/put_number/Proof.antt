@@ -2,10 +2,10 @@
 -- Assumes nothing.
 use mathlib.Core.List.{[], _∷_}
 use borrow.Author.Needs.{needs}
-use Rattle.text.specs.Decimal.{decimal}
 use Rattle.text.proofs.Putting.{room-first, room-next, put-both}
 use Rattle.text.proofs.put_number.Statement.{statement}
 use Rattle.text.proofs.put_number.Tie as tie
+use Rattle.rules.specs.Decimal.{decimal}
 
 put-decimal-requires : tie.Need-put-decimal-requires
 put-decimal-requires c κs = let s = c .before .before in room-first (decimal (s .args .n)) (s .args .b ∷ []) (s .pre)

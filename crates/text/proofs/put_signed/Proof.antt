@@ -8,12 +8,12 @@ use lib.Signed.{ltZ}
 use denote.Ref.{now}
 use borrow.Author.Needs.{needs}
 use Rattle.whole.proofs.Words.{read-back}
-use Rattle.text.specs.Decimal.{decimal}
 use Rattle.text.specs.Put.{Room}
 use Rattle.text.proofs.Digits.{signed-below, signed-above}
 use Rattle.text.proofs.Putting.{room-first, room-next, put-both}
 use Rattle.text.proofs.put_signed.Statement.{statement}
 use Rattle.text.proofs.put_signed.Tie as tie
+use Rattle.rules.specs.Decimal.{decimal}
 
 below : (c : tie.Then1) → ltZ (c .before .before .args .z) (pos 0) ≡ true
 below c = rw (read-back (c .before .before .fits .z)) at (c .if1 .taken)

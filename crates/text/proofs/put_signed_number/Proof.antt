@@ -3,10 +3,10 @@
 use mathlib.Core.List.{[], _∷_}
 use borrow.Author.Needs.{needs}
 use Rattle.whole.proofs.Words.{read-back}
-use Rattle.text.specs.Decimal.{signed}
 use Rattle.text.proofs.Putting.{room-first, room-next, put-both}
 use Rattle.text.proofs.put_signed_number.Statement.{statement}
 use Rattle.text.proofs.put_signed_number.Tie as tie
+use Rattle.rules.specs.Decimal.{signed}
 
 put-signed-requires : tie.Need-put-signed-requires
 put-signed-requires c κs = let s = c .before .before in rw (read-back (s .fits .z)) (room-first (signed (s .args .z)) (s .args .b ∷ []) (s .pre))

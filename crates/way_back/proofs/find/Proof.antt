@@ -4,12 +4,13 @@ use mathlib.Core.Path.{_≡_, sym, ap, _∙_, subst}
 use borrow.Author.Needs.{needs}
 use Rattle.rules.specs.declared.Pixel.{Pixel}
 use Rattle.rules.specs.Matrix.{matrixOf}
-use Rattle.rules.specs.WayBack.{IsPixel, tried}
+use Rattle.rules.specs.WayBack.{tried}
 use Rattle.decode.specs.Decoded.{decoded}
 use Rattle.way_back.proofs.Reach.{reached-given}
 use Rattle.way_back.proofs.Only.{candidate-is-pixel, out-of-reach, trying-finds}
 use Rattle.way_back.proofs.find.Statement.{statement}
 use Rattle.way_back.proofs.find.Tie as tie
+use Rattle.rules.specs.Pixels.{IsPixel}
 
 candidate-requires : tie.Need-candidate-requires
 candidate-requires c κs = let s = c .before .before in (s .pre, reached-given (s .args .a) (sym (c .before .all-in-reach .ensures) ∙ c .if1 .taken))

@@ -7,10 +7,10 @@ use Rattle.rules.specs.declared.Found.{Found}
 use Rattle.rules.specs.declared.Triple.{Triple}
 use Rattle.rules.specs.WayBack.{foundCheck}
 use Rattle.way_back.specs.Back.{pixelFor}
-use Rattle.rules.specs.Contents.{pixelRecord}
-use Rattle.record_conversion.specs.Conversions.{pixelFound}
 use Rattle.record_conversion.proofs.aces.write_back.Statement.{statement}
 use Rattle.record_conversion.proofs.aces.write_back.Tie as tie
+use Rattle.rules.specs.Record.{pixelRecord}
+use Rattle.rules.specs.Conversions.{pixelFound}
 
 pixel-of-requires : tie.Need-pixel-of-requires
 pixel-of-requires c κs =

@@ -4,12 +4,12 @@ use mathlib.Core.Path.{sym, ap, _∙_, subst}
 use denote.Ref.{now}
 use borrow.Author.Needs.{needs}
 use Rattle.rules.specs.declared.Pixel.{Pixel}
-use Rattle.rules.specs.WayBack.{IsPixel}
 use Rattle.way_back.specs.Back.{pixelAces}
-use Rattle.rules.specs.Contents.{acesRecord}
 use Rattle.record_conversion.proofs.Channels.{codes-pixel}
 use Rattle.record_conversion.proofs.aces.write_triple.Statement.{statement}
 use Rattle.record_conversion.proofs.aces.write_triple.Tie as tie
+use Rattle.rules.specs.Pixels.{IsPixel}
+use Rattle.rules.specs.Record.{acesRecord}
 
 to-aces-requires : tie.Need-to-aces-requires
 to-aces-requires c κs =

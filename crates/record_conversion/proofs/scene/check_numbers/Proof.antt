@@ -2,10 +2,10 @@
 -- Assumes nothing.
 use denote.Ref.{now}
 use borrow.Author.Needs.{needs}
-use Rattle.record_conversion.specs.Conversions.{numberCheck}
 use Rattle.record_conversion.proofs.Channels.{red-refused, green-refused, blue-decides}
 use Rattle.record_conversion.proofs.scene.check_numbers.Statement.{statement}
 use Rattle.record_conversion.proofs.scene.check_numbers.Tie as tie
+use Rattle.rules.specs.Conversions.{numberCheck}
 
 returns : tie.Need-returns
 returns c =

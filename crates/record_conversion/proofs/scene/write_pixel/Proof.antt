@@ -5,10 +5,10 @@ use native.Mathlib.Omega.{arith}
 use borrow.Author.Needs.{needs}
 use denote.Ref.{now}
 use Rattle.rules.specs.Record.{recordOf}
-use Rattle.record_conversion.specs.Conversions.{numberCheck}
 use Rattle.record_conversion.proofs.Channels.{AllPass, all-pass}
 use Rattle.record_conversion.proofs.scene.write_pixel.Statement.{statement}
 use Rattle.record_conversion.proofs.scene.write_pixel.Tie as tie
+use Rattle.rules.specs.Conversions.{numberCheck}
 
 passes : (s : tie.Start) → AllPass 8 (numberCheck (s .args .s)) (now (s .args .r))
 passes s = all-pass 8 (numberCheck (s .args .s)) (now (s .args .r)) (s .pre .1 .1 .0)

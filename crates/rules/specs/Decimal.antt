@@ -1,10 +1,10 @@
--- Whole numbers in decimal digits, as bytes of text (ASCII).
+-- Whole numbers in decimal digits, as bytes of text (ASCII), as the lister prints them.
 -- Assumes nothing.
 use mathlib.Core.List.{List, [], _∷_, _++_}
 use Prim.Native.Nat.{ℕ, zero, suc, _+_, _/_, _%_}
 use lib.Dec.{ltb}
 use lib.IntN.{ℤ, pos, negsuc}
 use Rattle.rules.specs.Choice.{choose}
 
 -- the byte of a digit: that of 0 is 48
 abbrev pub digit : ℕ → ℕ

@@ -1,0 +1,56 @@
+-- 01, "Refused, by the place of the check" and "Float pixels and the lister": what the calls on one code, number, pixel or record give: values,
+-- or the refusal of the first check that fails. The numbers of the codes are a parameter.
+-- Assumes nothing.
+use mathlib.Core.List.{List, [], _∷_}
+use Prim.Native.Nat.{ℕ}
+use lib.Ieee.{Float}
+use lib.IntN.{ℤ}
+use Rattle.rules.specs.declared.Check.{Check}
+use Rattle.rules.specs.declared.Setting.{Setting}
+use Rattle.rules.specs.declared.Pixel.{Pixel}
+use Rattle.rules.specs.declared.Triple.{Triple}
+use Rattle.rules.specs.Refusal.{then}
+use Rattle.rules.specs.Result.{Result, single}
+use Rattle.rules.specs.Setting.{topOf, settingCheck, codeCheck}
+use Rattle.rules.specs.Exact.{scaleOf}
+use Rattle.rules.specs.Encoding.{IsNearest, TwoThirds, codeBy, sceneCheck}
+use Rattle.rules.specs.Float.{floatOf, floatCheck, unitsOf, IsFloat}
+use Rattle.rules.specs.Pixels.{codesCheck}
+use Rattle.rules.specs.WayBack.{pixelBy, codesFound, foundCheck}
+
+-- "red, green and blue (each channel's checks before the next channel)", of floats
+abbrev pub floatsCheck : (x y z : Float) → Check
+floatsCheck x y z = then (floatCheck x) (then (floatCheck y) (floatCheck z))
+
+module _ (number : Setting → ℕ → ℤ) (s : Setting) where
+  -- decoding one code: 3, 4, 5, then 6
+  abbrev pub decodeBy : ℕ → Result ℤ
+  decodeBy n = single (then (settingCheck s) (codeCheck s n)) (number s n ∷ [])
+
+  -- encoding one scene number: 3, 4, 5, then 7
+  abbrev pub encodeBy : ℤ → Result ℕ
+  encodeBy x = single (then (settingCheck s) (sceneCheck x)) (codeBy number s x ∷ [])
+
+  -- what 01 asks of the code of a scene number: it is the nearest, and within two thirds of a code of the exact curve
+  pub record EncodesBy (x : ℤ) (n : ℕ) : Type 0 where
+    pub nearest : IsNearest (number s) (topOf (s .width)) x n
+    pub two-thirds : TwoThirds (scaleOf s) (topOf (s .width)) x n
+
+  -- the way back over one record: 3, 4, 5, then 10
+  abbrev pub wayBackBy : Triple → Result ℕ
+  wayBackBy a = single (then (settingCheck s) (foundCheck (pixelBy number s a))) (codesFound (pixelBy number s a))
+
+  -- "Decoding one pixel answers either that float pixel or a refusal number": 3, 4, 5, then 6 for red, green and blue
+  abbrev pub decodeFloatsBy : Pixel → Result Float
+  decodeFloatsBy p =
+      single (then (settingCheck s) (codesCheck s p)) (floatOf (number s (p .red .0)) ∷ floatOf (number s (p .green .0)) ∷ floatOf (number s (p .blue .0)) ∷ [])
+
+  -- each float that is given is the channel's scene number, exactly
+  pub data ExactBy (p : Pixel) : List Float → Type 0 where
+    three : {x y z : Float} → IsFloat (number s (p .red .0)) x → IsFloat (number s (p .green .0)) y → IsFloat (number s (p .blue .0)) z → ExactBy p (x ∷ y ∷ z ∷ [])
+    none : ExactBy p []
+
+  -- "In the other direction a float is .. taken to the nearest unit (a half going up), then encoded.": 3, 4, 5, then 8 and 9 of each channel
+  abbrev pub encodeFloatsBy : (x y z : Float) → Result ℕ
+  encodeFloatsBy x y z =
+      single (then (settingCheck s) (floatsCheck x y z)) (codeBy number s (unitsOf x) ∷ codeBy number s (unitsOf y) ∷ codeBy number s (unitsOf z) ∷ [])

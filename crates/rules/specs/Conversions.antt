@@ -1,0 +1,81 @@
+-- 01, "Records and settings": "The strip conversions are pixel to scene (decoding), scene to pixel (encoding), pixel to ACES, and ACES to pixel
+-- (the way back).": what each checks of a record after its setting, and what it writes. The numbers of the codes are a parameter.
+-- Assumes nothing.
+use mathlib.Core.List.{List}
+use Prim.Native.Nat.{ℕ}
+use lib.IntN.{ℤ}
+use Rattle.rules.specs.declared.Check.{Check}
+use Rattle.rules.specs.declared.Setting.{Setting}
+use Rattle.rules.specs.declared.Pixel.{Pixel}
+use Rattle.rules.specs.declared.Found.{Found}
+use Rattle.rules.specs.declared.Found as found
+use Rattle.rules.specs.Refusal.{then}
+use Rattle.rules.specs.Setting.{codeCheck}
+use Rattle.rules.specs.Encoding.{codeBy, sceneCheck}
+use Rattle.rules.specs.Pixels.{pixel, acesBy}
+use Rattle.rules.specs.Record.{toBits, ofBits, sizeOf, codeBytes, numberBytes, settingOf, channelAt, recordOf, pixelIn, pixelRecord, tripleIn, acesRecord}
+use Rattle.rules.specs.WayBack.{pixelBy, foundCheck}
+use Rattle.rules.specs.Strip.{Conversion}
+
+-- "red, green and blue (each channel's checks before the next channel)", of channels of a bytes
+unfoldable pub channelChecks : (a : ℕ) → (ℕ → Check) → List ℕ → Check
+channelChecks a check r = then (check (channelAt a r 0)) (then (check (channelAt a r 1)) (check (channelAt a r 2)))
+
+-- the record of a setting with channels of b bytes, made one by one from the channels of a bytes of a record
+abbrev pub eachChannel : (a b : ℕ) → Setting → (ℕ → ℕ) → List ℕ → List ℕ
+eachChannel a b s one r = recordOf b s (record { red = one (channelAt a r 0); green = one (channelAt a r 1); blue = one (channelAt a r 2) })
+
+-- channel by channel: a channel's check, and what a channel becomes. "A conversion copies the setting."
+abbrev pub channelwise : (a b : ℕ) (check : Setting → ℕ → Check) (one : Setting → ℕ → ℕ) → Conversion
+channelwise a b check one =
+    record {
+      from = sizeOf a;
+      to = sizeOf b;
+      inner = λ r. channelChecks a (check (settingOf r)) r;
+      bytes = λ r. eachChannel a b (settingOf r) (one (settingOf r)) r;
+    }
+
+-- refusal 7, of the bits of a number
+abbrev pub numberCheck : Setting → ℕ → Check
+numberCheck s u = sceneCheck (ofBits numberBytes u)
+
+-- what is written for what was found (nothing is where there is none: refusal 10)
+abbrev pub pixelFound : Found → Pixel
+pixelFound (found.Found.Pixel p) = p
+pixelFound found.Found.Nothing = pixel 0 0 0
+
+-- ---- where codes have these numbers
+module _ (number : Setting → ℕ → ℤ) where
+  -- "pixel to scene (decoding)"
+  abbrev pub sceneBits : Setting → ℕ → ℕ
+  sceneBits s n = toBits numberBytes (number s n)
+
+  abbrev pub pixelToScene : Conversion
+  pixelToScene = channelwise codeBytes numberBytes codeCheck sceneBits
+
+  -- "scene to pixel (encoding)"
+  abbrev pub codeBits : Setting → ℕ → ℕ
+  codeBits s u = codeBy number s (ofBits numberBytes u)
+
+  abbrev pub sceneToPixel : Conversion
+  sceneToPixel = channelwise numberBytes codeBytes numberCheck codeBits
+
+  -- "pixel to ACES": a pixel "gives the ACES record that holds this setting and the pixel's three ACES numbers"
+  abbrev pub pixelToAces : Conversion
+  pixelToAces =
+      record {
+        from = sizeOf codeBytes;
+        to = sizeOf numberBytes;
+        inner = λ r. channelChecks codeBytes (codeCheck (settingOf r)) r;
+        bytes = λ r. acesRecord (settingOf r) (acesBy number (settingOf r) (pixelIn r));
+      }
+
+  -- "ACES to pixel (the way back)": the pixel that gives the record
+  abbrev pub acesToPixel : Conversion
+  acesToPixel =
+      record {
+        from = sizeOf numberBytes;
+        to = sizeOf codeBytes;
+        inner = λ r. foundCheck (pixelBy number (settingOf r) (tripleIn r));
+        bytes = λ r. pixelRecord (settingOf r) (pixelFound (pixelBy number (settingOf r) (tripleIn r)));
+      }
