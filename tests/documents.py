@@ -26,13 +26,12 @@ ANYWHERE = ("specs", "proofs", "src", "must-fail")
 # Names that are of nothing in the repository, and why.
 ALLOWED = {
     "requires": "a word of the language", "ensures": "a word of the language",
-    "&[u8]": "a type of the language", "&mut u64": "a type of the language",
+    "&mut u64": "a type of the language",
     "rt": "the toolchain's command", "rt ci": "the toolchain's command",
     "rt check lister": "the toolchain's command", "axioms=": "a word of the toolchain's reports",
     "axioms=2": "a word of the toolchain's reports", "N passed, 0 failed": "the toolchain's last line",
     "cp": "a program of the system", "perf record": "a program of the system",
     "nan": "a value of the logic's floats",
-    "/dev/pts/..": "files of the system", "/dev/tty..": "files of the system",
     "-": "standard input, on the command line",
     ".OUT.ropeinstant-0": "a name that the command makes", "-1": "its end", "-31": "its end",
 }
@@ -269,7 +268,8 @@ class Reader:
             if self.holds(str(self.folder.relative_to(ROOT)), name):
                 return True
         literal = re.sub("^[A-Z]+(?=[.])", "", name)  # a word in capitals stands for any name
-        if f'"{literal}"' in self.sources.tool or re.search(rf"(?<!\w){re.escape(name)}(?!\w)", self.sources.installed):
+        installed = re.fullmatch(r"[A-Z_]+|\w+\.\w+", name) and re.search(rf"\b{re.escape(name)}\b", self.sources.installed)
+        if f'"{literal}"' in self.sources.tool or installed:
             return True
         called = name.removeprefix("ropeinstant ").split()  # words of the command, options, and what stands for names
         options = [word.removeprefix("--") for word in called if re.fullmatch("[a-z-]+", word)]
@@ -413,6 +413,8 @@ def complaints(sources, texts):
     listed = {row.get("Crate", "") for _, row in rows(ARCHITECTURE, texts[ARCHITECTURE])}
     listed = {name for cell in listed for name in re.findall("`([^`]*)`", cell)}
     wrong += [f"crates/{c} is not in {ARCHITECTURE}" for c in sources.crates if c not in listed]
+    named = " ".join(" ".join(texts.values()).split())
+    wrong += [f"tests/documents.py: no document has `{name}`" for name in ALLOWED if f"`{name}`" not in named]
     return [*wrong, *ids(texts), *links(texts), *long_lines(texts), *figures(sources, texts)]
 
 
