@@ -28,7 +28,7 @@ decoded-small s v n h = limited (raw s n) (raw-limited s v n h)
 pub decoded-number : (s : Setting) → Valid s → (n : ℕ) → n ≤ topOf (s .width) → Number (decoded s n)
 decoded-number s v n h = record { small = le-trans (decoded-small s v n h) (lit≤ tt) }
 
--- "greys stay grey": three equal codes give three equal ACES numbers, and these are the code's decoded number
+-- "three equal codes give three equal ACES numbers", and these are the code's decoded number
 pub equal-codes : (s : Setting) → Valid s → (n : ℕ) → n ≤ topOf (s .width)
     → IsAces (matrixOf s) (decoded s n) (decoded s n) (decoded s n) (decoded s n) (decoded s n) (decoded s n)
 equal-codes s v n h = greys-stay s (decoded s n) (decoded-number s v n h)

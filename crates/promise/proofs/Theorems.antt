@@ -67,7 +67,7 @@ made-is-written pixels output n a room =
     called pixelToAces pixels output n (made pixels ++ drop (n * 28) output) (back.whole-done pixelToAces pixels output n (lit< tt) (accepted-whole pixels n a output room))
     (ap (λ (l : List ℕ). l ++ drop (n * 28) output) (sym (made-records pixels n a)))
 
--- 1. "Equal pixel strips exactly when equal ACES strips"
+-- 1. "For any two accepted pixel strips, the strips are equal exactly when the ACES strips made from them are equal."
 pub equal-strips : (pixels others : List ℕ) (n m : ℕ) → Accepted pixels n → Accepted others m → (pixels ≡ others) ↔ (made pixels ≡ made others)
 equal-strips pixels others n m a b = (λ e. ap made e, back-equal)
   where
@@ -103,8 +103,8 @@ pub strip-within : (pixels : List ℕ) (n : ℕ) → Accepted pixels n → (k : 
 strip-within pixels n a k h i l =
     subst (NearExact i (recordAt 10 k pixels)) (sym (made-at pixels n a k h)) (record-within (recordAt 10 k pixels) (accepted-good pixels n a k h) (a .each k h) i l)
 
--- 3. "the way back returns the same bytes": given an output long enough it turns the ACES strip into the pixel strip, and reports its number
--- of records
+-- 3. "The way back, given an output long enough, turns the ACES strip made from it into the same pixel strip, byte for byte, and reports its number
+-- of records."
 pub way-back-returns : (pixels output : List ℕ) (n : ℕ) → Accepted pixels n → length pixels ≤ length output
     → (resultOf acesToPixel (made pixels) output ≡ done (n ∷ [])) × (stripAfter acesToPixel (made pixels) output ≡ pixels ++ drop (length pixels) output)
 way-back-returns pixels output n a room =
