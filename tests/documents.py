@@ -2,11 +2,12 @@
 """documents.py [--papers FOLDER]: hold README.md and the documents of docs/ to the sources.
 
 Whatever they name in backticks has to exist and to stand where they say. Every must-fail edit and
-every open function has to be in PROMISES.md, under an id that has both of its rows. Every crate has
-to be in ARCHITECTURE.md. The figures of FORMAT.md have to be those of the code, and links have to
-lead somewhere. No line but a table's row is longer than 100 columns. How names are written is said
-in PROMISES.md. With the folder of the demands and of 01, which are not in the repository, what the
-tables quote is also compared with them, letter for letter."""
+every open function has to be in PROMISES.md, under an id that has both of its rows, and every
+theorem of a file `Theorems`. Every crate has to be in ARCHITECTURE.md. The figures of FORMAT.md
+have to be those of the code, and links have to lead somewhere. No line of docs/ but a table's row
+is longer than 100 columns. How names are written is said in PROMISES.md. With the folder of the
+demands and of 01, which are not in the repository, what the tables quote is also compared with
+them, letter for letter."""
 import os, re, sys
 from collections import namedtuple
 from pathlib import Path
@@ -83,7 +84,7 @@ class Sources:
         self.crates = sorted(p.name for p in (ROOT / "crates").iterdir() if p.is_dir())
         listed = re.findall(r"\w+", re.sub("#.*", "", (ROOT / "crates.txt").read_text()))
         self.libraries = set(listed) - set(self.crates)  # the toolchain's
-        self.declared, self.functions, self.code = {}, [], {}
+        self.declared, self.functions, self.code, self.theorems = {}, [], {}, []
         for path in sorted((ROOT / "crates").rglob("*")):
             name, crate = str(path.relative_to(ROOT)), path.relative_to(ROOT).parts[1]
             if path.suffix == ".rt":
@@ -92,6 +93,8 @@ class Sources:
                 self.functions += functions
             elif path.suffix == ".antt" and path.parent.name in ("specs", "proofs"):
                 self.declared[name] = stated(path.read_text())
+                if path.stem == "Theorems":
+                    self.theorems += [(name, n) for n in re.findall(r"(?m)^(?:\w+ )*pub ([^\s:]+) :", path.read_text())]
             elif path.suffix == ".edit":
                 self.declared[name] = {path.stem}
         self.placed = [(path, *path.split("/")[1:3], Path(path).stem) for path in self.declared]
@@ -157,7 +160,7 @@ class Reader:
     def __init__(self, sources, block, folder):
         self.sources, self.block, self.folder = sources, block, folder
         self.crate = self.file = self.test = None
-        self.edits, self.wrong = set(), []
+        self.edits, self.cited, self.wrong = set(), set(), []
 
     def read(self):
         parts = re.split("`([^`]*)`", re.sub('"[^"]*"', '""', self.block.text))
@@ -258,6 +261,7 @@ class Reader:
         found = self.sources.stands(name, crates, folders, file)
         self.file = file or self.file
         self.edits |= {path for path in found if path.endswith(".edit") and self.crate}
+        self.cited |= {(path, name) for path in found if column == "Proof"}
         if not found and (column in PLACES or not self.said(written)):
             where = crates[0] if len(crates) == 1 else "any crate"
             self.complain(written, f"is not in {' or '.join(folders)} of {where}")
@@ -350,7 +354,8 @@ def links(texts):
 
 
 def long_lines(texts):
-    for document, text in texts.items():
+    others = {os.path.relpath(p, ROOT): p.read_text() for p in sorted((ROOT / "docs").rglob("*.md"))}
+    for document, text in {**others, **texts}.items():
         for number, line in enumerate(text.splitlines(), 1):
             if len(line) > COLUMNS and not line.startswith("|"):
                 yield f"{document}:{number}: the line has {len(line)} columns"
@@ -395,7 +400,7 @@ def figures(sources, texts):
 
 
 def complaints(sources, texts):
-    wrong, edits = [], set()
+    wrong, edits, cited = [], set(), set()
     for document, text in texts.items():
         row = folder = None
         for block in blocks(document, text):
@@ -403,10 +408,12 @@ def complaints(sources, texts):
             row, folder = block.line, reader.folder
             wrong += reader.wrong
             edits |= reader.edits if document == PROMISES else set()
+            cited |= reader.cited
             wrong += tests(sources, block) if block.column == "Tests" else ()
     wrong += surface(sources, blocks(PROMISES, texts[PROMISES]))
     there = [path for path in sources.declared if path.endswith(".edit")]
     wrong += [f"{path} is not named in {PROMISES}" for path in there if path not in edits]
+    wrong += [f"{path}: {name} is not in {PROMISES}" for path, name in sources.theorems if (path, name) not in cited]
     said = re.findall(r"(\d+) must-fail edits", texts[BENCHMARKS])
     if said != [str(len(there))]:
         wrong.append(f"{BENCHMARKS}: there are {len(there)} must-fail edits, not {said}")
@@ -441,7 +448,7 @@ def damaged(sources, texts):
         cells = [re.search(form, b.text) for b in blocks(PROMISES, texts[PROMISES]) if b.column == column]
         return next(m for m in cells if m and wanted(m))
 
-    theorem = first("Proof", r"`(\w+\.[\w-]+)`")[1]
+    theorem = first("Proof", r"`(Theorems\.[\w-]+)`")[1]
     crate, edit = first("Edits", r"(\w+) `(\w+)`",
                         lambda m: sources.stands(m[2], [m[1]], ["must-fail"])).groups()
     other = next(c for c in sources.crates if not sources.stands(edit, [c], ["must-fail"]))
@@ -453,6 +460,7 @@ def damaged(sources, texts):
     sentence = next(row for _, row in rows(PROMISES, texts[PROMISES]) if "Sentence" in row)
     named, place = re.search(r"(`\w+`) in (`crates/\S+\.rt`)", texts[DECISIONS]).groups()
     yield "a theorem renamed", swap(f"`{theorem}`", f"`{theorem}-renamed`"), f"{theorem}-renamed"
+    yield "a theorem not cited", swap(f"`{theorem}`", "", PROMISES), f"{theorem.split('.')[1]} is not in {PROMISES}"
     yield "an edit not named", swap(f"`{edit}`", "none"), f"{edit}.edit"
     yield "an edit of another crate", swap(f"{crate} `{edit}`", f"{other} `{edit}`"), f"`{edit}`"
     yield "a path that is not there", swap(f"`{path}`", f"`{path}.no`", ARCHITECTURE), f"{path}.no"
