@@ -8,7 +8,7 @@ have to be those of the code, and links have to lead somewhere. No line of docs/
 is longer than 100 columns. How names are written is said in PROMISES.md. With the folder of the
 demands and of 01, which are not in the repository, what the tables quote is also compared with
 them, letter for letter."""
-import os, re, sys
+import functools, os, re, sys
 from collections import namedtuple
 from pathlib import Path
 
@@ -111,11 +111,13 @@ class Sources:
         return [path for path, crate, folder, stem in self.placed
                 if name in self.declared[path] and crate in crates and folder in folders and file in (None, stem)]
 
+    @functools.lru_cache(maxsize=None)
     def outside(self, f):
         """whether other crates see a function, if it is public: it is in lib.rt or in a public module"""
         library = self.code.get(f"crates/{f.crate}/src/lib.rt", "")
         return f.path.endswith("/lib.rt") or f"pub mod {Path(f.path).stem};" in library
 
+    @functools.lru_cache(maxsize=None)
     def called(self, f):
         """whether another library, or another file of its own crate, calls a function"""
         inside = rf"\b{f.name}\b"
@@ -129,6 +131,7 @@ class Sources:
 
 # ---- the documents
 
+@functools.lru_cache(maxsize=None)
 def blocks(document, text):
     """the paragraphs and the cells of a document, without the lines that are set as code"""
     found, titles, paragraph = [], None, None
@@ -399,17 +402,23 @@ def figures(sources, texts):
                 yield f"{document}: {' | '.join(columns)}: {[row for row in found if row not in right]} for {right}"
 
 
+@functools.lru_cache(maxsize=None)
+def read(sources, document, text):
+    """what is wrong with the names of a document, the edits that it names, and the proofs that it cites"""
+    wrong, edits, cited, row, folder = [], set(), set(), None, None
+    for block in blocks(document, text):
+        reader = Reader(sources, block, folder if block.line == row else None).read()
+        row, folder = block.line, reader.folder
+        wrong += reader.wrong
+        edits |= reader.edits
+        cited |= reader.cited
+        wrong += tests(sources, block) if block.column == "Tests" else ()
+    return wrong, edits, cited
+
+
 def complaints(sources, texts):
-    wrong, edits, cited = [], set(), set()
-    for document, text in texts.items():
-        row = folder = None
-        for block in blocks(document, text):
-            reader = Reader(sources, block, folder if block.line == row else None).read()
-            row, folder = block.line, reader.folder
-            wrong += reader.wrong
-            edits |= reader.edits if document == PROMISES else set()
-            cited |= reader.cited
-            wrong += tests(sources, block) if block.column == "Tests" else ()
+    wrong = [complaint for document, text in texts.items() for complaint in read(sources, document, text)[0]]
+    _, edits, cited = read(sources, PROMISES, texts[PROMISES])
     wrong += surface(sources, blocks(PROMISES, texts[PROMISES]))
     there = [path for path in sources.declared if path.endswith(".edit")]
     wrong += [f"{path} is not named in {PROMISES}" for path in there if path not in edits]
