@@ -1,32 +1,40 @@
 #!/usr/bin/env python3
-"""documents.py [--papers FOLDER]: hold README.md, docs/PROMISES.md and docs/DECISIONS.md to the
-sources. Whatever they name in backticks has to exist and to stand where they say, every must-fail
-edit and every open function has to be in PROMISES.md, and every crate in README.md. How names are
-written is said at the head of PROMISES.md. With the folder of the demands and of 01, which are not
-in the repository, what the tables quote is also compared with them, letter for letter."""
-import os, re, sys
+"""documents.py [--papers FOLDER]: hold README.md and the documents of docs/ to the sources.
+
+Whatever they name in backticks has to exist and to stand where they say. Every must-fail edit and
+every open function has to be in PROMISES.md, under an id that has both of its rows, and every
+theorem of a file `Theorems`. Every crate has to be in ARCHITECTURE.md. The figures of FORMAT.md
+have to be those of the code, and links have to lead somewhere. No line of docs/ but a table's row
+is longer than 100 columns. How names are written is said in PROMISES.md. With the folder of the
+demands and of 01, which are not in the repository, what the tables quote is also compared with
+them, letter for letter."""
+import functools, os, re, sys
 from collections import namedtuple
 from pathlib import Path
 
 ROOT = Path(__file__).resolve().parent.parent
 README, PROMISES, DECISIONS = "README.md", "docs/PROMISES.md", "docs/DECISIONS.md"
+ARCHITECTURE, FORMAT = "docs/ARCHITECTURE.md", "docs/FORMAT.md"
+COMMAND, BENCHMARKS = "docs/COMMAND.md", "docs/BENCHMARKS.md"
+DOCUMENTS = README, ARCHITECTURE, FORMAT, COMMAND, PROMISES, DECISIONS, BENCHMARKS
+COLUMNS = 100  # of a line that is no table's row
 
 # Columns of the tables, and where the names in them stand: folders of a crate.
-PLACES = {"Definition": ("specs", "src"), "Theorem or contract": ("proofs", "src"),
-          "Must-fail edit": ("must-fail", "proofs"), "Open function": ("src",), "Stated by": ("specs",)}
+PLACES = {"Definition": ("specs", "src"), "Proof": ("proofs", "src"), "Edits": ("must-fail", "proofs"),
+          "Open function": ("src",), "Stated by": ("specs",)}
 ANYWHERE = ("specs", "proofs", "src", "must-fail")
 
 # Names that are of nothing in the repository, and why.
 ALLOWED = {
     "requires": "a word of the language", "ensures": "a word of the language",
-    "&[u8]": "a type of the language", "&mut u64": "a type of the language",
+    "&mut u64": "a type of the language",
     "rt": "the toolchain's command", "rt ci": "the toolchain's command",
     "rt check lister": "the toolchain's command", "axioms=": "a word of the toolchain's reports",
     "axioms=2": "a word of the toolchain's reports", "N passed, 0 failed": "the toolchain's last line",
     "cp": "a program of the system", "perf record": "a program of the system",
     "nan": "a value of the logic's floats",
-    "/dev/pts/..": "files of the system", "/dev/tty..": "files of the system",
-    "-": "standard input, on the command line", ".OUT.ropeinstant-PID-TIME": "a name that the command makes",
+    "-": "standard input, on the command line",
+    ".OUT.ropeinstant-0": "a name that the command makes", "-1": "its end", "-31": "its end",
 }
 
 Block = namedtuple("Block", "document line column text")  # a paragraph, or a cell and its column
@@ -76,7 +84,7 @@ class Sources:
         self.crates = sorted(p.name for p in (ROOT / "crates").iterdir() if p.is_dir())
         listed = re.findall(r"\w+", re.sub("#.*", "", (ROOT / "crates.txt").read_text()))
         self.libraries = set(listed) - set(self.crates)  # the toolchain's
-        self.declared, self.functions, self.code = {}, [], {}
+        self.declared, self.functions, self.code, self.theorems = {}, [], {}, []
         for path in sorted((ROOT / "crates").rglob("*")):
             name, crate = str(path.relative_to(ROOT)), path.relative_to(ROOT).parts[1]
             if path.suffix == ".rt":
@@ -85,11 +93,14 @@ class Sources:
                 self.functions += functions
             elif path.suffix == ".antt" and path.parent.name in ("specs", "proofs"):
                 self.declared[name] = stated(path.read_text())
+                if path.stem == "Theorems":
+                    self.theorems += [(name, n) for n in re.findall(r"(?m)^(?:\w+ )*pub ([^\s:]+) :", path.read_text())]
             elif path.suffix == ".edit":
                 self.declared[name] = {path.stem}
         self.placed = [(path, *path.split("/")[1:3], Path(path).stem) for path in self.declared]
         self.tool = "\n".join(p.read_text() for p in sorted((ROOT / "tool/src").rglob("*.rs")))
         self.gate = (ROOT / "gate").read_text()
+        self.installed = (ROOT / "Makefile").read_text() + (ROOT / "include/ropeinstant.h").read_text()
         self.texts = [p.read_text() for p in sorted((ROOT / "crates").glob("*/s[rp]*/*")) if p.is_file()]
         scripts = "\n".join(p.read_text() for p in ROOT.iterdir() if p.is_file() and os.access(p, os.X_OK))
         literals = re.findall(r'"[^"\n]*"', "\n".join([self.tool, *self.code.values()]))
@@ -100,11 +111,13 @@ class Sources:
         return [path for path, crate, folder, stem in self.placed
                 if name in self.declared[path] and crate in crates and folder in folders and file in (None, stem)]
 
+    @functools.lru_cache(maxsize=None)
     def outside(self, f):
         """whether other crates see a function, if it is public: it is in lib.rt or in a public module"""
         library = self.code.get(f"crates/{f.crate}/src/lib.rt", "")
         return f.path.endswith("/lib.rt") or f"pub mod {Path(f.path).stem};" in library
 
+    @functools.lru_cache(maxsize=None)
     def called(self, f):
         """whether another library, or another file of its own crate, calls a function"""
         inside = rf"\b{f.name}\b"
@@ -118,6 +131,7 @@ class Sources:
 
 # ---- the documents
 
+@functools.lru_cache(maxsize=None)
 def blocks(document, text):
     """the paragraphs and the cells of a document, without the lines that are set as code"""
     found, titles, paragraph = [], None, None
@@ -140,7 +154,7 @@ def blocks(document, text):
 
 
 JOINED = {", ", " and ", ", and ", "; ", " .. ", " or "}
-PATH = r"(?:[\w-]+/)*[\w-]+\.(?:md|py|rt|rs|c|h|antt)"
+PATH = r"(?:[\w-]+/)*[\w-]+\.(?:md|py|rt|rs|c|h|antt|txt)"
 
 
 class Reader:
@@ -149,11 +163,12 @@ class Reader:
     def __init__(self, sources, block, folder):
         self.sources, self.block, self.folder = sources, block, folder
         self.crate = self.file = self.test = None
-        self.edits, self.wrong = set(), []
+        self.edits, self.cited, self.wrong = set(), set(), []
 
     def read(self):
         parts = re.split("`([^`]*)`", re.sub('"[^"]*"', '""', self.block.text))
         last, listed = None, []  # the name before, and those of a list: `a`, `b` in `path`
+        within = behind = None  # the path before, and where it is followed by names that are to stand in it
         for before, name in zip(parts[::2], parts[1::2] + [None]):
             for bare in re.findall(rf"(?<![\w./-]){PATH}(?![\w/])", before):
                 self.path(bare)
@@ -168,13 +183,26 @@ class Reader:
                 self.crate = self.file = None
             if word and (word[1] == "test" or (ROOT / f"tests/{word[1]}.py").exists()):
                 self.test = word[1]
+            if within and re.fullmatch(r": |: [a-z]+( \w+)? of ", before) or before in JOINED and behind:
+                behind = within  # `path`: `a`, `b`
+            else:
+                behind = None
             place = self.one(name)
+            if behind and not place and not self.holds(behind, name):
+                self.complain(name, f"is not in {behind}")
+            within = place or behind
             for other in listed if re.sub(r" \([^()]*\)", "", before) in (" in ", " (") else ():
                 if other.split(".")[-1] not in self.sources.declared.get(place, {other.split(".")[-1]}):
                     self.complain(other, f"is not in {place}")
             listed = [] if place else listed + [name] if before in JOINED else [name]
             last = name
         return self
+
+    def holds(self, path, name):
+        """whether a file has a name: it declares it or, where it is no file of a crate, has it as a word"""
+        if path in self.sources.declared:
+            return name.split(".")[-1] in self.sources.declared[path] | {Path(path).stem}
+        return not (ROOT / path).is_file() or bool(re.search(rf"\b{re.escape(name)}\b", (ROOT / path).read_text()))
 
     def complain(self, name, why):
         self.wrong.append(f"{self.block.document}:{self.block.line}: `{name}` {why}")
@@ -186,7 +214,7 @@ class Reader:
             return
         if "/" in first or re.fullmatch(PATH, first) or self.entry(name):
             return self.path(first)
-        if column == "Test":
+        if column == "Tests":
             test = ROOT / f"tests/{self.test}.py"
             text = test.read_text() if test.exists() else self.sources.tool  # "unit test": of the command
             if not re.search(rf"\b(def|fn) {name}\(", text):
@@ -236,12 +264,25 @@ class Reader:
         found = self.sources.stands(name, crates, folders, file)
         self.file = file or self.file
         self.edits |= {path for path in found if path.endswith(".edit") and self.crate}
+        self.cited |= {(path, name) for path in found if column == "Proof"}
         if not found and (column in PLACES or not self.said(written)):
             where = crates[0] if len(crates) == 1 else "any crate"
             self.complain(written, f"is not in {' or '.join(folders)} of {where}")
 
     def said(self, name):
         """a file of definitions or proofs, a word that a program prints or takes, or code as it stands"""
+        if self.folder and self.folder.suffix in (".py", ".rs", ".c", ".h"):
+            if self.holds(str(self.folder.relative_to(ROOT)), name):
+                return True
+        literal = re.sub("^[A-Z]+(?=[.])", "", name)  # a word in capitals stands for any name
+        installed = re.fullmatch(r"[A-Z_]+|\w+\.\w+", name) and re.search(rf"\b{re.escape(name)}\b", self.sources.installed)
+        if f'"{literal}"' in self.sources.tool or installed:
+            return True
+        called = name.removeprefix("ropeinstant ").split()  # words of the command, options, and what stands for names
+        options = [word.removeprefix("--") for word in called if re.fullmatch("[a-z-]+", word)]
+        if all(re.fullmatch(r"[A-Z]+(\.\.)?|[a-z][a-z-]*|--[a-z-]+", word) for word in called) and name != name.upper():
+            if {*options} <= {*self.sources.words, "help"}:
+                return True
         if re.fullmatch("[A-Z][A-Za-z]+", name):
             return any(stem == name and self.crate in (None, crate) for _, crate, _, stem in self.sources.placed)
         if re.fullmatch("[a-z-]+( [a-z.-]+)?", name) and name.split()[0] in self.sources.words:
@@ -281,23 +322,116 @@ def surface(sources, found):
             yield f"{f.path}: {f.name} is public and has no `ensures`"
 
 
-def complaints(sources, texts):
-    wrong, edits = [], set()
+def rows(document, text):
+    """the rows of the tables of a document: the line, and the cells by their columns"""
+    found = {}
+    for block in blocks(document, text):
+        if block.column is not None:
+            found.setdefault(block.line, {})[block.column] = block.text
+    return found.items()
+
+
+def ids(texts):
+    """each id has a row with its sentence and a row with its edits and tests, and "as ID" means such a row"""
+    for column, other in ("Sentence", "Edits"), ("Edits", "Sentence"):
+        there = [row["Id"] for _, row in rows(PROMISES, texts[PROMISES]) if "Id" in row and other in row]
+        yield from (f"{PROMISES}: {name} has two rows with {other}" for name in {*there} if there.count(name) > 1)
+        for line, row in rows(PROMISES, texts[PROMISES]):
+            if column in row and not (re.fullmatch(r"[A-Z]\d*\.?\d+", row.get("Id", "")) and row["Id"] in there):
+                yield f"{PROMISES}:{line}: {row.get('Id')} has no row with {other}"
+            for name in re.findall(r"\bas ([A-Z][\d.]+)\b", row.get("Proof", "")):
+                if name not in there:
+                    yield f"{PROMISES}:{line}: there is no {name}"
+
+
+def links(texts):
+    """each link leads to a file of the repository and, behind a #, to a heading there"""
     for document, text in texts.items():
-        row = folder = None
-        for block in blocks(document, text):
-            reader = Reader(sources, block, folder if block.line == row else None).read()
-            row, folder = block.line, reader.folder
-            wrong += reader.wrong
-            edits |= reader.edits if document == PROMISES else set()
-            wrong += tests(sources, block) if block.column == "Test" else ()
+        for name, _, heading in (link.partition("#") for link in re.findall(r"\]\(([^()\s]+)\)", text)):
+            path = (ROOT / document).parent / name if name else ROOT / document
+            other = texts.get(os.path.relpath(path, ROOT), "") if heading else ""
+            there = re.findall("(?m)^#+ (.*)", other)
+            there = [re.sub(r"[^\w -]", "", title.lower()).replace(" ", "-") for title in there]
+            if not path.exists() or heading and there.count(heading) != 1:
+                yield f"{document}: the link to {name}#{heading} leads nowhere"
+
+
+def long_lines(texts):
+    others = {os.path.relpath(p, ROOT): p.read_text() for p in sorted((ROOT / "docs").rglob("*.md"))}
+    for document, text in {**others, **texts}.items():
+        for number, line in enumerate(text.splitlines(), 1):
+            if len(line) > COLUMNS and not line.startswith("|"):
+                yield f"{document}:{number}: the line has {len(line)} columns"
+
+
+# ---- the figures
+
+def curve(module):
+    """the associated constants of a curve's type: its number, its widths, its EIs, and what stands for each EI"""
+    text = (ROOT / f"crates/curves/src/{module}.rt").read_text()
+    limits = dict(re.findall(r"pub const (\w+): [^=]+ = ([^{};]+);", text))
+    constants = re.findall(r"pub const EI_(\d+): [^{]*\{([^}]*)\}", text)
+    constants = {ei: dict(re.findall(r"(\w+): ([\d_]+),", row)) for ei, row in constants}
+    return limits["NUMBER"], limits["WIDTHS"].strip("[]"), ", ".join(constants) or limits["EI"], constants
+
+
+def figures(sources, texts):
+    """the tables of FORMAT.md and COMMAND.md that hold figures: the settings, the constants, the matrices, the
+    bytes of a record and the refusals' numbers are those of the code and of the rules"""
+    curves = [curve("log_c3"), curve("log_c4")]
+    record = (ROOT / "crates/rules/specs/Record.antt").read_text()
+    code, number = (4 + 3 * int(re.search(rf"(?m)^{name} = (\d+)", record)[1]) for name in ("codeBytes", "numberBytes"))
+    refused = re.findall(r"(?m)^numberOf \w+ = (\d+)", (ROOT / "crates/rules/specs/Refusal.antt").read_text())
+    entries = (ROOT / "crates/aces/src/entries.rt").read_text()
+    entries = [line.split(", ") for line in re.findall(r"\[(-?\d+, -?\d+, -?\d+)\]", entries)]
+    wanted = {
+        ("Curve", "Widths", "EI"): [[n, widths, eis] for n, widths, eis, _ in curves],
+        ("Kind", "Bytes"): [["pixel", str(code)], ["scene", str(number)], ["ACES", str(number)]],
+        ("EI", *"cut b c d e f".split()): [
+            [ei] + [f"{row[k][:1]}.{row[k][2:]}" for k in "cut b c d e f".split()] for ei, row in curves[0][3].items()],
+        ("from red", "from green", "from blue"): entries,
+        ("No.",): [[n] for n in refused],
+    }
+    for document in FORMAT, COMMAND:
+        for columns, right in wanted.items():
+            found = [[row[c] for c in columns] for _, row in rows(document, texts[document]) if {*columns} <= {*row}]
+            found = [[re.sub(r"^(\d+), LogC.*|,(?=\d{3})", r"\1", cell) for cell in row] for row in found]
+            if columns == ("No.",) and document == COMMAND:
+                right = [[n] for n in re.findall(r"number: (\d+), when", sources.tool)]
+            if found != right and (found or document == FORMAT):
+                yield f"{document}: {' | '.join(columns)}: {[row for row in found if row not in right]} for {right}"
+
+
+@functools.lru_cache(maxsize=None)
+def read(sources, document, text):
+    """what is wrong with the names of a document, the edits that it names, and the proofs that it cites"""
+    wrong, edits, cited, row, folder = [], set(), set(), None, None
+    for block in blocks(document, text):
+        reader = Reader(sources, block, folder if block.line == row else None).read()
+        row, folder = block.line, reader.folder
+        wrong += reader.wrong
+        edits |= reader.edits
+        cited |= reader.cited
+        wrong += tests(sources, block) if block.column == "Tests" else ()
+    return wrong, edits, cited
+
+
+def complaints(sources, texts):
+    wrong = [complaint for document, text in texts.items() for complaint in read(sources, document, text)[0]]
+    _, edits, cited = read(sources, PROMISES, texts[PROMISES])
     wrong += surface(sources, blocks(PROMISES, texts[PROMISES]))
     there = [path for path in sources.declared if path.endswith(".edit")]
     wrong += [f"{path} is not named in {PROMISES}" for path in there if path not in edits]
-    said = re.findall(r"edits, (\d+) of them", texts[README])
-    wrong += [f"{README}: there are {len(there)} edits, not {n}" for n in said if int(n) != len(there)]
-    wrong += [f"crates/{c} is not in {README}" for c in sources.crates if f"`crates/{c}`" not in texts[README]]
-    return wrong
+    wrong += [f"{path}: {name} is not in {PROMISES}" for path, name in sources.theorems if (path, name) not in cited]
+    said = re.findall(r"(\d+) must-fail edits", texts[BENCHMARKS])
+    if said != [str(len(there))]:
+        wrong.append(f"{BENCHMARKS}: there are {len(there)} must-fail edits, not {said}")
+    listed = {row.get("Crate", "") for _, row in rows(ARCHITECTURE, texts[ARCHITECTURE])}
+    listed = {name for cell in listed for name in re.findall("`([^`]*)`", cell)}
+    wrong += [f"crates/{c} is not in {ARCHITECTURE}" for c in sources.crates if c not in listed]
+    named = " ".join(" ".join(texts.values()).split())
+    wrong += [f"tests/documents.py: no document has `{name}`" for name in ALLOWED if f"`{name}`" not in named]
+    return [*wrong, *ids(texts), *links(texts), *long_lines(texts), *figures(sources, texts)]
 
 
 # ---- the quotations
@@ -323,19 +457,31 @@ def damaged(sources, texts):
         cells = [re.search(form, b.text) for b in blocks(PROMISES, texts[PROMISES]) if b.column == column]
         return next(m for m in cells if m and wanted(m))
 
-    theorem = first("Theorem or contract", r"`(\w+\.[\w-]+)`")[1]
-    crate, edit = first("Must-fail edit", r"(\w+) `(\w+)`",
+    theorem = first("Proof", r"`(Theorems\.[\w-]+)`")[1]
+    crate, edit = first("Edits", r"(\w+) `(\w+)`",
                         lambda m: sources.stands(m[2], [m[1]], ["must-fail"])).groups()
     other = next(c for c in sources.crates if not sources.stands(edit, [c], ["must-fail"]))
     alone = {(f.crate, f.name) for f in sources.functions if not sources.called(f)}
     open_one = first("Open function", r"(\w+) `(\w+)`", lambda m: m.groups() in alone)
     asks = next(f for f in sources.functions if f.public and "requires" in f.contract)
-    path = re.search(r"`(include/[\w.]+)`", texts[README])[1]
+    path = re.search(r"`(include/[\w.]+)`", texts[ARCHITECTURE])[1]
+    given, held = re.search(r"`(crates/\S+\.rt)`: `(\w+)`", texts[ARCHITECTURE]).groups()
+    sentence = next(row for _, row in rows(PROMISES, texts[PROMISES]) if "Sentence" in row)
     named, place = re.search(r"(`\w+`) in (`crates/\S+\.rt`)", texts[DECISIONS]).groups()
     yield "a theorem renamed", swap(f"`{theorem}`", f"`{theorem}-renamed`"), f"{theorem}-renamed"
+    yield "a theorem not cited", swap(f"`{theorem}`", "", PROMISES), f"{theorem.split('.')[1]} is not in {PROMISES}"
     yield "an edit not named", swap(f"`{edit}`", "none"), f"{edit}.edit"
     yield "an edit of another crate", swap(f"{crate} `{edit}`", f"{other} `{edit}`"), f"`{edit}`"
-    yield "a path that is not there", swap(f"`{path}`", f"`{path}.no`", README), f"{path}.no"
+    yield "a path that is not there", swap(f"`{path}`", f"`{path}.no`", ARCHITECTURE), f"{path}.no"
+    yield "a name that its path does not hold", swap(f"`{given}`: `{held}`", f"`{given}`: `main`", ARCHITECTURE), "`main` is not in"
+    yield "an id without its edits", swap(f"| {sentence['Id']} | {sentence['Sentence']}", f"| D9 | {sentence['Sentence']}"), "D9 has no row"
+    yield "a crate that is not listed", swap(f"`{crate}`", "", ARCHITECTURE), f"crates/{crate} is not in"
+    yield "another count of edits", swap("must-fail edits", "edits", BENCHMARKS), "must-fail edits"
+    yield "a link that leads nowhere", swap("](docs/", "](docs/no/", README), "leads nowhere"
+    yield "a heading that is not there", swap("\n## ", "\n## No ", DECISIONS), "leads nowhere"
+    yield "a line that is too long", swap("\n\n", "\n\n" + "long " * COLUMNS, README), "columns"
+    for figure in "| 10 | a code", "10, 12, 16 |", "| 0.005561 |", "| 680205 |", "| 9 | a float":
+        yield f"another figure in {figure}", swap(figure, figure.replace("0", "7").replace("9", "8"), FORMAT), FORMAT
     yield "a name of another file", swap(f"{named} in {place}", f"`main` in {place}", DECISIONS), "`main` is not in"
     yield "an open function with a `requires`", swap(open_one[0], f"{asks.crate} `{asks.name}`"), asks.name
     yield "an open function not listed", swap(f"| {open_one[0]} |", "| |"), open_one[2]
@@ -347,12 +493,12 @@ def unseen(sources, texts, papers):
     for what, copy, word in damaged(sources, texts):
         if not any(word in c for c in {*complaints(sources, copy)} - before):
             yield f"tests/documents.py does not see {what}"
-    if papers and {*quoted({PROMISES: re.sub(r'(?m)^(\| [^|"]*")', r'\1no ', texts[PROMISES], count=1)}, papers)} <= before:
+    if papers and {*quoted({PROMISES: re.sub(r'(?m)^(\| [A-Z][\d.]+ \| [^|"]*")', r'\1no ', texts[PROMISES], count=1)}, papers)} <= before:
         yield "tests/documents.py does not see a sentence that nobody wrote"
 
 
 def main():
-    sources, texts, papers = Sources(), {d: (ROOT / d).read_text() for d in (README, PROMISES, DECISIONS)}, []
+    sources, texts, papers = Sources(), {d: (ROOT / d).read_text() for d in DOCUMENTS}, []
     if sys.argv[1:]:
         papers = [" ".join(p.read_text().split()) for p in sorted(Path(sys.argv[-1]).glob("0[01]-*.md"))]
         if sys.argv[1:-1] != ["--papers"] or len(papers) != 2:
