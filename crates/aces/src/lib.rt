@@ -73,7 +73,7 @@ fn aces_c4(x: Scene, y: Scene, z: Scene) -> Triple
 }
 
 // The ACES numbers of three scene numbers.
-pub fn aces(s: Setting, x: Scene, y: Scene, z: Scene) -> Triple
+fn aces(s: Setting, x: Scene, y: Scene, z: Scene) -> Triple
     requires { ⌜ Number (x .0) ⌝ }
     requires { ⌜ Number (y .0) ⌝ }
     requires { ⌜ Number (z .0) ⌝ }
