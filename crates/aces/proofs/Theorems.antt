@@ -1,30 +1,21 @@
 -- DEMANDS 2 and 3, the ACES numbers of a pixel, for every valid setting.
 -- Assumes nothing.
-use Prim.Native.Nat.{ℕ, _^_, _≤_, _<_}
+use Prim.Native.Nat.{ℕ, _≤_, _<_}
 use native.Mathlib.Nat.{le-trans}
-use native.Mathlib.Omega.{arith}
 use lib.Dec.{eqb, lit≤}
-use lib.IntN.{natAbs, subℕ}
-use Rattle.whole.proofs.Reflect.{abs-is, one-zero, sub-dif}
 use Rattle.rules.specs.declared.Setting.{Setting}
 use Rattle.rules.specs.Setting.{topOf, Valid}
 use Rattle.rules.specs.Exact.{scaleOf}
 use Rattle.rules.specs.Matrix.{matrixOf, acesNumber, IsAces}
 use Rattle.rules.specs.ExactRow.{acesTolerance, WithinRow}
-use Rattle.decode.specs.Decoded.{offset, raw, decoded}
+use Rattle.decode.specs.Decoded.{decoded}
 use Rattle.decode.proofs.Close.{decoded-close}
-use Rattle.decode.proofs.Limit.{raw-limited}
+use Rattle.decode.proofs.Distance.{decoded-small}
 use Rattle.row_product.specs.Row.{Number}
 use Rattle.aces.proofs.Greys.{greys-stay}
 use Rattle.aces.proofs.Within.{matrix-within}
 
-limited : (u : ℕ) → u ≤ 2 ^ 33 → natAbs (subℕ u offset) ≤ 2 ^ 33
-limited u h = omega (arith, abs-is (subℕ u offset), one-zero (subℕ u offset), sub-dif u offset)
-
 -- a decoded number may be taken to ACES
-pub decoded-small : (s : Setting) → Valid s → (n : ℕ) → n ≤ topOf (s .width) → natAbs (decoded s n) ≤ 2 ^ 33
-decoded-small s v n h = limited (raw s n) (raw-limited s v n h)
-
 pub decoded-number : (s : Setting) → Valid s → (n : ℕ) → n ≤ topOf (s .width) → Number (decoded s n)
 decoded-number s v n h = record { small = le-trans (decoded-small s v n h) (lit≤ tt) }
 

@@ -122,3 +122,7 @@ pub decodes-small : (s : Setting) → Valid s → (n : ℕ) → n ≤ topOf (s .
 decodes-small s v n h y p =
     let near = decodes-near s v n h y p in
     omega (arith, abs-is y, one-zero y, near .high, near .low, sub-dif (raw s n) offset, raw-limited s v n h)
+
+-- the number that is computed among them
+pub decoded-small : (s : Setting) → Valid s → (n : ℕ) → n ≤ topOf (s .width) → natAbs (decoded s n) ≤ 2 ^ 33
+decoded-small s v n h = decodes-small s v n h (decoded s n) (decoding s v n h)

@@ -2,17 +2,17 @@
 -- Assumes nothing.
 use mathlib.Core.Path.{_≡_}
 use Prim.Native.Nat.{ℕ, _^_, _≤_}
-use native.Mathlib.Omega.{arith}
-use lib.IntN.{natAbs, subℕ}
-use Rattle.whole.proofs.Reflect.{abs-is, one-zero, sub-dif}
+use native.Mathlib.Nat.{le-trans}
+use lib.Dec.{lit≤}
+use lib.IntN.{natAbs}
 use Rattle.rules.specs.declared.Check.the-variants.{Passed}
 use Rattle.rules.specs.declared.Pixel.{Pixel}
 use Rattle.rules.specs.declared.Setting.{Setting}
 use Rattle.rules.specs.Refusal.{then}
 use Rattle.rules.specs.Setting.{codeCheck, Valid}
 use Rattle.rules.proofs.Settings.{both, code-passed}
-use Rattle.decode.specs.Decoded.{offset, raw, decoded}
-use Rattle.decode.proofs.Limit.{raw-limited}
+use Rattle.decode.specs.Decoded.{decoded}
+use Rattle.decode.proofs.Distance.{decoded-small}
 use Rattle.rules.specs.Pixels.{IsPixel, codesCheck}
 
 pub is-pixel : (s : Setting) (p : Pixel) → codesCheck s p ≡ Passed → IsPixel s p
@@ -21,8 +21,6 @@ is-pixel s p e =
     let g = both (codeCheck s (p .green .0)) (codeCheck s (p .blue .0)) (r .1) in
     record { red = r .0; green = g .0; blue = g .1 }
 
-pub decoded-small : (s : Setting) → Valid s → (n : ℕ) → codeCheck s n ≡ Passed → natAbs (decoded s n) ≤ 2 ^ 40
-decoded-small s v n e = small (raw s n) (raw-limited s v n (code-passed s n e))
-  where
-    small : (u : ℕ) → u ≤ 2 ^ 33 → natAbs (subℕ u offset) ≤ 2 ^ 40
-    small u h = omega (arith, sub-dif u offset, abs-is (subℕ u offset), one-zero (subℕ u offset))
+-- a decoded number may be a float
+pub decoded-fits : (s : Setting) → Valid s → (n : ℕ) → codeCheck s n ≡ Passed → natAbs (decoded s n) ≤ 2 ^ 40
+decoded-fits s v n e = le-trans (decoded-small s v n (code-passed s n e)) (lit≤ tt)

@@ -15,12 +15,12 @@ use Rattle.rules.proofs.Settings.{both}
 use Rattle.decode.specs.Decoded.{decoded}
 use Rattle.float_unit.proofs.Scaled.{float-exact}
 use Rattle.float_decode.specs.Answer.{floatPixel, floats, decodePixelResult, Exact}
-use Rattle.float_decode.proofs.Channels.{is-pixel, decoded-small}
+use Rattle.float_decode.proofs.Channels.{is-pixel, decoded-fits}
 use Rattle.rules.specs.Pixels.{IsPixel, codesCheck}
 
 -- "A scene number v is the float v / 16,777,216, exactly; zero gives plus zero": of every code of a valid setting
 pub decoded-exact : (s : Setting) → Valid s → (n : ℕ) → codeCheck s n ≡ Passed → IsFloat (decoded s n) (floatOf (decoded s n))
-decoded-exact s v n e = float-exact (decoded s n) (decoded-small s v n e)
+decoded-exact s v n e = float-exact (decoded s n) (decoded-fits s v n e)
 
 -- so of every answer
 pub result-exact : (s : Setting) (p : Pixel) → Exact s p (decodePixelResult s p .values)

@@ -35,22 +35,6 @@ fn refused(why: Refusal) -> FloatDecoding
     FloatDecoding::Refused(setting::refusal_number(why))
 }
 
-// The checks of the three codes.
-fn check_codes(s: Setting, p: Pixel) -> Check
-    requires { ⌜ Valid s ⌝ }
-    ensures { λ x. ⌜ x ≡ codesCheck s p ⌝ }
-{
-    let red = setting::check_code(s, p.red);
-    let Check::Passed = red else {
-        return red;
-    };
-    let green = setting::check_code(s, p.green);
-    let Check::Passed = green else {
-        return green;
-    };
-    setting::check_code(s, p.blue)
-}
-
 // The float of a code's number.
 fn float_at(s: Setting, d: Decoder, t: &[u64; 128], n: Code) -> f64
     requires { ⌜ Ready s d (now t) ⌝ }
@@ -76,7 +60,7 @@ fn decode_valid(s: Setting, p: Pixel) -> FloatDecoding
     requires { ⌜ Valid s ⌝ }
     ensures { λ a. ⌜ floatDecodingResult a ≡ single (codesCheck s p) (floats (floatPixel s p)) ⌝ }
 {
-    match check_codes(s, p) {
+    match setting::check_pixel(s, p) {
         Check::Refused(why) => refused(why),
         Check::Passed => {
             let d = Decoder::new(s);

@@ -23,14 +23,14 @@ use Rattle.float_unit.proofs.Readings.{check-is, scene-is}
 use Rattle.float_unit.proofs.Theorems.{own-reading}
 use Rattle.float_decode.specs.declared.FloatPixel.{FloatPixel}
 use Rattle.float_decode.specs.Answer.{floatPixel, floats, decodePixelResult}
-use Rattle.float_decode.proofs.Channels.{is-pixel, decoded-small}
+use Rattle.float_decode.proofs.Channels.{is-pixel, decoded-fits}
 use Rattle.float_encode.specs.Answer.{encodePixelResult}
 use Rattle.rules.specs.Pixels.{IsPixel, pixel, codes, codesCheck}
 
 -- the float of a code's number passes the checks, and encodes to that code
 module _ (s : Setting) (v : Valid s) (n : ℕ) (h : codeCheck s n ≡ Passed) where
   own : readAnswer (floatOf (decoded s n)) ≡ Reading.Scene (record { 0 = decoded s n })
-  own = own-reading (decoded s n) (decoded-small s v n h)
+  own = own-reading (decoded s n) (decoded-fits s v n h)
 
   own-passes : floatCheck (floatOf (decoded s n)) ≡ Passed
   own-passes = check-is (floatOf (decoded s n)) (Reading.Scene (record { 0 = decoded s n })) own

@@ -14,7 +14,7 @@ use Rattle.rules.proofs.Settings.{code-passed, both}
 use Rattle.decode.specs.Decoded.{decoded}
 use Rattle.aces_inverse.specs.Given.{Given}
 use Rattle.aces_inverse.proofs.Inverse.{aces-small}
-use Rattle.aces.proofs.Theorems.{decoded-small}
+use Rattle.decode.proofs.Distance.{decoded-small}
 use Rattle.record_conversion.specs.Conversions.{pixelToAces}
 use Rattle.record_conversion.proofs.Channels.{all-pass}
 use Rattle.lister_line.specs.Line.{longest}

@@ -30,7 +30,7 @@ use Rattle.rules.proofs.Settings.{both, code-passed, refused-never}
 use Rattle.decode.specs.Decoded.{decoded}
 use Rattle.aces_inverse.specs.Given.{Small3, Given}
 use Rattle.aces_inverse.proofs.Inverse.{aces-small}
-use Rattle.aces.proofs.Theorems.{decoded-small}
+use Rattle.decode.proofs.Distance.{decoded-small}
 use Rattle.way_back.specs.Back.{pixelFor}
 use Rattle.way_back.proofs.Theorems.{found-gives, own-found, one-pixel}
 use Rattle.record_conversion.specs.Conversions.{pixelToAces, acesToPixel}

@@ -15,30 +15,13 @@ use rules::Code;
 use rules::Scene;
 use rules::Setting;
 
-// The check of the code at a place of the record.
-fn check_at(s: Setting, r: &[u8], at: usize) -> Check
-    requires { ⌜ Valid s ⌝ }
-    requires { ⌜ at + 1 < length (now r) ⌝ }
-    ensures { λ x. ⌜ x ≡ codeCheck s (value (take 2 (drop at (now (r .entry))))) ⌝ }
-{
-    setting::check_code(s, Code(little_endian::word_at(r, at)))
-}
-
 // The checks of the three codes of a record.
 pub fn check_codes(s: Setting, r: &[u8]) -> Check
     requires { ⌜ Valid s ⌝ }
     requires { ⌜ length (now r) ≡ 10 ⌝ }
     ensures { λ x. ⌜ x ≡ channelChecks 2 (codeCheck s) (now (r .entry)) ⌝ }
 {
-    let red = check_at(s, r, 4);
-    let Check::Passed = red else {
-        return red;
-    };
-    let green = check_at(s, r, 6);
-    let Check::Passed = green else {
-        return green;
-    };
-    check_at(s, r, 8)
+    setting::check_pixel(s, records::pixel_in(r))
 }
 
 // The scene number of the code at a place of the record.

@@ -2,6 +2,7 @@
 ghost use mathlib.Core.Path.{_≡_};
 ghost use Rattle.rules.specs.Refusal.{numberOf, then, refuseUnless};
 ghost use Rattle.rules.specs.declared.Refusal.the-variants.{UnknownWidth, UnknownEi};
+ghost use Rattle.rules.specs.Pixels.{codesCheck};
 ghost use Rattle.rules.specs.Setting.{topOf, settingCheck, codeCheck, Valid};
 ghost use Rattle.setting.specs.Same.{sameSetting};
 use curves::CurveName;
@@ -9,6 +10,7 @@ use curves::log_c3::LogC3;
 use curves::log_c4::LogC4;
 use rules::Check;
 use rules::Code;
+use rules::Pixel;
 use rules::Refusal;
 use rules::Setting;
 
@@ -77,6 +79,22 @@ pub fn check_code(s: Setting, n: Code) -> Check
     } else {
         Check::Refused(Refusal::CodeAboveTop)
     }
+}
+
+// The checks of a pixel's codes: the first code that is refused decides.
+pub fn check_pixel(s: Setting, p: Pixel) -> Check
+    requires { ⌜ Valid s ⌝ }
+    ensures { λ x. ⌜ x ≡ codesCheck s p ⌝ }
+{
+    let red = check_code(s, p.red);
+    let Check::Passed = red else {
+        return red;
+    };
+    let green = check_code(s, p.green);
+    let Check::Passed = green else {
+        return green;
+    };
+    check_code(s, p.blue)
 }
 
 // Whether two settings are the same.

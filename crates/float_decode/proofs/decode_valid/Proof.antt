@@ -14,16 +14,16 @@ floats-of-requires c κs =
     let k = c .before .before .before in
     let s = k .before .before .before in (
       record { valid = s .pre; decoder = c .before .before .new .ensures; table = c .before .table .ensures },
-      is-pixel (s .args .s) (s .args .p) (sym (k .before .before .check-codes .ensures) ∙ k .enum-told .given .1),
+      is-pixel (s .args .s) (s .args .p) (sym (k .before .before .check-pixel .ensures) ∙ k .enum-told .given .1),
     )
 
 returns : tie.Need-returns
-returns c = rw (sym (c .before .before .before .before .check-codes .ensures) ∙ c .before .before .why .given .1) (c .refused .ensures)
+returns c = rw (sym (c .before .before .before .before .check-pixel .ensures) ∙ c .before .before .why .given .1) (c .refused .ensures)
 
 returns-2 : tie.Need-returns-2
 returns-2 c =
     let k = c .before .before .before .before in
-    rw (sym (k .before .before .check-codes .ensures) ∙ k .enum-told .given .1) (ap (λ (f : FloatPixel). done (floats f)) (c .floats-of .ensures))
+    rw (sym (k .before .before .check-pixel .ensures) ∙ k .enum-told .given .1) (ap (λ (f : FloatPixel). done (floats f)) (c .floats-of .ensures))
 
 pub decode-valid-spec : {M : Type 1} → statement M
 decode-valid-spec =

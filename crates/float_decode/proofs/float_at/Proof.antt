@@ -5,7 +5,7 @@ use Prim.Native.Nat.{_^_, _≤_}
 use lib.IntN.{ℤ, natAbs}
 use Rattle.rules.specs.Float.{floatOf}
 use Rattle.decode.proofs.Fit.{ready-fits, ready-number}
-use Rattle.float_decode.proofs.Channels.{decoded-small}
+use Rattle.float_decode.proofs.Channels.{decoded-fits}
 use Rattle.float_decode.proofs.float_at.Statement.{statement}
 use Rattle.float_decode.proofs.float_at.Tie as tie
 
@@ -15,7 +15,7 @@ scene-requires c κs = ready-fits (c .pre .0) _ (c .pre .1)
 float-of-requires : tie.Need-float-of-requires
 float-of-requires c κs =
     let s = c .before in
-    subst (λ (z : ℤ). natAbs z ≤ 2 ^ 40) (sym (c .scene .ensures ∙ ready-number (s .pre .0) _)) (decoded-small (s .args .s) (s .pre .0 .valid) (s .args .n .0) (s .pre .1))
+    subst (λ (z : ℤ). natAbs z ≤ 2 ^ 40) (sym (c .scene .ensures ∙ ready-number (s .pre .0) _)) (decoded-fits (s .args .s) (s .pre .0 .valid) (s .args .n .0) (s .pre .1))
 
 returns : tie.Need-returns
 returns c =

@@ -1,9 +1,9 @@
--- `check_codes` meets its contract: the first code that is refused decides.
+-- `check_pixel` meets its contract: the first code that is refused decides.
 -- Assumes nothing.
 use mathlib.Core.Path.{sym, _∙_}
 use borrow.Author.Needs.{needs}
-use Rattle.float_decode.proofs.check_codes.Statement.{statement}
-use Rattle.float_decode.proofs.check_codes.Tie as tie
+use Rattle.setting.proofs.check_pixel.Statement.{statement}
+use Rattle.setting.proofs.check_pixel.Tie as tie
 
 returns : tie.Need-returns
 returns c = rw (sym (c .before .before .check-code .ensures) ∙ c .enum-told2 .given .1) (c .enum-told2 .given .1)
@@ -18,7 +18,7 @@ returns-3 c =
     let k = c .before .before .before .before in
     rw (sym (k .before .before .check-code .ensures) ∙ k .enum-told .given .1, sym (c .before .before .before .check-code2 .ensures) ∙ c .before .enum-told3 .given .1) (c .check-code3 .ensures)
 
-pub check-codes-spec : {M : Type 1} → statement M
-check-codes-spec =
+pub check-pixel-spec : {M : Type 1} → statement M
+check-pixel-spec =
     tie.close
     (tie.spec (λ c κs. search needs) (λ c. search needs) (λ c. search needs) returns (λ c κs. search needs) (λ c. search needs) (λ c. search needs) returns-2 (λ c κs. search needs) returns-3)
