@@ -13,6 +13,11 @@ PROGRAM = os.path.abspath(sys.argv[1]) if len(sys.argv) > 1 else sys.exit(f"as i
 NOBODY = {"user": 65534, "group": 65534, "extra_groups": []} if os.geteuid() == 0 else {}
 
 
+# A test that was started with signals ignored, as in the background or under nohup, would hand that on to the command, which heeds it.
+for number in signal.SIGINT, signal.SIGTERM, signal.SIGHUP:
+    signal.signal(number, signal.SIG_DFL)
+
+
 def call(*words, data=None, **more):
     """run the command: its status, and what it says on standard output and standard error"""
     done = subprocess.run([PROGRAM, *map(str, words)], input=data, capture_output=True, **more)
