@@ -18,7 +18,7 @@
  * next, and may be made on any thread.
  *
  * What the caller owes, and no proof sees: each pointer is not null (even for a length of 0) and points to as many bytes as its
- * length says; in, out and *at do not overlap; nothing else writes them during the call. */
+ * length says, or to the three values that its type says; in, out and *at do not overlap; nothing else writes them during the call. */
 #ifndef ROPEINSTANT_H
 #define ROPEINSTANT_H
 

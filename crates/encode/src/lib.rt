@@ -67,8 +67,8 @@ fn encode_valid(s: Setting, x: Scene) -> Encoding
     }
 }
 
-// The code of a scene number, or the refusal of the first check that fails: 3, 4, 5, then 7. The code is the nearest, and within two thirds
-// of a code of the exact curve.
+// The code of a scene number, or the refusal of the first check that fails: 3, 4, 5, then 7. The code is the nearest, and where it is not
+// clipped within two thirds of a code of the exact curve.
 pub fn encode(s: Setting, x: Scene) -> Encoding
     ensures { λ r. ⌜ encodingResult r ≡ encodeResult s (x .0) ⌝ }
     ensures { λ r. ⌜ Each (Encodes s (x .0)) (encodingResult r .values) ⌝ }

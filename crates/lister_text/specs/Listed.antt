@@ -26,7 +26,8 @@ listed = listedBy decoded
 abbrev pub enough : (k : ℕ) → (input output : List ℕ) → Bool
 enough k input output = choose (leb (longest * (length input / size) + longestTail) (length output)) (ltb (k + length input / size) (2 ^ 64)) false
 
--- the text that is made of bytes: what is printed for them, or none where the output has not room for the longest or an index is too large
+-- the text that is made of bytes: what is printed for them, or none where the output has not room for the longest or the index after the last
+-- is 2^64
 unfoldable pub textFor : (k : ℕ) → (input output : List ℕ) → List ℕ
 textFor k input output = choose (enough k input output) (listed k input) []
 

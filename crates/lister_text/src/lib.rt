@@ -64,7 +64,8 @@ fn put_lines(first: u64, input: &[u8], n: usize, out: &mut [u8]) -> usize
 }
 
 // The text of bytes whose first record has the index `first`, at the start of the output: how many bytes it has. An output without room for
-// the longest text of so many records is left as it was, and the answer is 0; so too where an index is too large for its type.
+// the longest text of so many records is left as it was, and the answer is 0; so too where the index after the last is
+// 2^64.
 pub fn list(first: u64, input: &[u8], out: &mut [u8]) -> usize
     ensures { λ count. ⌜ Lists first (now (input .entry)) (now (out .entry)) count (now (out .exit)) ⌝ }
 {

@@ -24,7 +24,7 @@ use Rattle.rules.specs.Float.{floatCheck, unitsOf}
 use Rattle.rules.specs.Matrix.{minus, matrixOf, IsAces}
 use Rattle.rules.specs.WayBack.{pixelWith, foundCheck}
 use Rattle.rules.specs.Strip.{answerOf}
-use Rattle.record_conversion.specs.Conversions.{pixelToScene, pixelToAces}
+use Rattle.rules.specs.Conversions.{pixelToScene, pixelToAces}
 use Rattle.rules.specs.Pixels.{triple}
 
 abbrev pub setting : (curve width ei : ℕ) → Setting
@@ -66,8 +66,8 @@ pub record Marked : Type 0 where
   pub code-1024 : numberOfCheck (then (settingCheck (setting 3 10 800)) (codeCheck (setting 3 10 800) 1024)) ≡ 6
   -- "Eleven bytes of pixel records: 1."
   pub partial-record : numberOf PartialRecord ≡ 1
-  pub eleven-bytes : (input output : List ℕ) → length input ≡ 11
-      → (answerOf pixelToScene input output ≡ Refused PartialRecord 0) × (answerOf pixelToAces input output ≡ Refused PartialRecord 0)
+  pub eleven-bytes : (number : Setting → ℕ → ℤ) (input output : List ℕ) → length input ≡ 11
+      → (answerOf (pixelToScene number) input output ≡ Refused PartialRecord 0) × (answerOf (pixelToAces number) input output ≡ Refused PartialRecord 0)
   -- "Scene 2^40 gives top, one more gives 7." (of every setting)
   pub scene-limit : (s : Setting) → Valid s → (number : ℕ → ℤ) → Allowed s number
       → (n : ℕ) → IsNearest number (topOf (s .width)) (pos limit) n → n ≡ topOf (s .width)

@@ -2,12 +2,12 @@
 -- two strips of bytes. The contract of a function on strips says that these are the call's own, and
 -- that the strips are bytes, so that nothing else is left to assume.
 -- Assumes nothing.
-use mathlib.Core.Path.{_≡_, refl, sym, subst}
-use mathlib.Core.List.{List}
+use mathlib.Core.Path.{_≡_, sym, subst}
+use mathlib.Core.List.{List, [], _∷_}
 use Prim.Native.Nat.{ℕ, _*_, _≤_, _<_}
 use lib.ListN.{length}
 use Rattle.rules.specs.declared.Answer.{Answer}
-use Rattle.rules.specs.declared.Answer.the-variants.{Done}
+use Rattle.rules.specs.Result.{done, stripResult}
 use Rattle.rules.specs.Strip.{Conversion, recordAt, answerOf, outputAfter, Converts}
 use Rattle.record_conversion.specs.Conversions.{pixelToScene, sceneToPixel}
 use Rattle.strip.specs.Lent.{LentBytes}
@@ -23,21 +23,20 @@ module _ {c : Conversion} {input output after : List ℕ} {answer : Answer} (h :
       (subst (λ (a : Answer). P a (outputAfter c input output a)) (sym (h .answers)) p)
 
   pub each-of-call : (R : (r out : List ℕ) → Type 0) (n : ℕ) → ConvertedEach c R input output n
-      → (answer ≡ Done n) × ((k : ℕ) → k < n → R (recordAt (c .from) k input) (recordAt (c .to) k after))
+      → (stripResult answer ≡ done (n ∷ [])) × ((k : ℕ) → k < n → R (recordAt (c .from) k input) (recordAt (c .to) k after))
   each-of-call R n e =
-      of-call (λ a out. (a ≡ Done n) × ((k : ℕ) → k < n → R (recordAt (c .from) k input) (recordAt (c .to) k out)))
-      (subst (λ (a : Answer). (a ≡ Done n) × ((k : ℕ) → k < n → R (recordAt (c .from) k input) (recordAt (c .to) k (outputAfter c input output a)))) (e .answers) (refl, e .each))
+      of-call (λ a out. (stripResult a ≡ done (n ∷ [])) × ((k : ℕ) → k < n → R (recordAt (c .from) k input) (recordAt (c .to) k out))) (e .answers, e .each)
 
 -- a call of pixel to scene, on a strip whose records hold pixels
 pub decoded-by-call : {pixels output after : List ℕ} {answer : Answer} → Converts pixelToScene pixels output answer after → LentBytes pixels output after
     → (n : ℕ) → length pixels ≡ n * 10 → ((k : ℕ) → k < n → HoldsPixel (recordAt 10 k pixels)) → n * 28 ≤ length output
-    → (answer ≡ Done n) × ((k : ℕ) → k < n → DecodedRecord (recordAt 10 k pixels) (recordAt 28 k after))
+    → (stripResult answer ≡ done (n ∷ [])) × ((k : ℕ) → k < n → DecodedRecord (recordAt 10 k pixels) (recordAt 28 k after))
 decoded-by-call {pixels} {output} h lent n long each room =
     each-of-call h DecodedRecord n (pixels-decoded pixels output n (record { bytes = lent .input-bytes; long = long; each = each }) room)
 
 -- and of scene to pixel
 pub encoded-by-call : {scenes output after : List ℕ} {answer : Answer} → Converts sceneToPixel scenes output answer after → LentBytes scenes output after
     → (n : ℕ) → length scenes ≡ n * 28 → ((k : ℕ) → k < n → HoldsScene (recordAt 28 k scenes)) → n * 10 ≤ length output
-    → (answer ≡ Done n) × ((k : ℕ) → k < n → EncodedRecord (recordAt 28 k scenes) (recordAt 10 k after))
+    → (stripResult answer ≡ done (n ∷ [])) × ((k : ℕ) → k < n → EncodedRecord (recordAt 28 k scenes) (recordAt 10 k after))
 encoded-by-call {scenes} {output} h lent n long each room =
     each-of-call h EncodedRecord n (scenes-encoded scenes output n (record { bytes = lent .input-bytes; long = long; each = each }) room)

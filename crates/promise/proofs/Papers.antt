@@ -1,6 +1,6 @@
 -- THE MASTER DEPENDS ON THE PUBLISHED PAPERS ALONE: whoever decodes each code to the nearest whole number, as the published curves say,
 -- makes the same ACES strip of an accepted pixel strip, byte for byte, and finds the same pixel on the way back. None of our tables is
--- needed to read a master.
+-- needed to read a master, only the layout of its records.
 -- Assumes nothing.
 use mathlib.Core.Path.{_≡_, refl, ap, ap₂, sym, _∙_}
 use mathlib.Core.List.{List, _++_}

@@ -1,6 +1,6 @@
 -- DEMAND 2 OF SCENE STRIPS: for an accepted pixel strip each scene number written is a decoded
 -- number of the same channel's code, and for an accepted scene strip each code written is the
--- nearest one, within two thirds of a code. For every strip of bytes, settings mixed.
+-- nearest one, within two thirds of a code where it is not clipped. For every strip of bytes, settings mixed.
 -- Assumes nothing.
 use mathlib.Core.Path.{_≡_, sym, ap, _∙_, subst}
 use mathlib.Core.List.{List}
@@ -8,6 +8,7 @@ use Prim.Native.Nat.{ℕ, _*_, _^_, _≤_, _<_}
 use native.Mathlib.Nat.{le-of-eq, zero-add, lt-of-le-of-lt}
 use lib.Dec.{lit<}
 use lib.ListN.{length, drop}
+use Rattle.rules.specs.declared.Answer.{Answer}
 use Rattle.rules.specs.declared.Answer.the-variants.{Done}
 use Rattle.rules.specs.declared.Check.{Check}
 use Rattle.rules.specs.declared.Check.the-variants.{Passed}
@@ -16,7 +17,8 @@ use Rattle.rules.specs.Setting.{codeCheck, Valid}
 use Rattle.rules.specs.Exact.{scaleOf}
 use Rattle.rules.specs.Decoding.{Decodes}
 use Rattle.rules.specs.Record.{IsBytes, ofBits, sizeOf, codeBytes, numberBytes, settingOf, channelAt}
-use Rattle.rules.specs.Strip.{recordCheck, recordAt, outputAfter}
+use Rattle.rules.specs.Strip.{recordCheck, recordAt, answerOf, outputAfter}
+use Rattle.rules.specs.Result.{stripResult}
 use Rattle.rules.proofs.Records.{length-record}
 use Rattle.rules.proofs.Settings.{code-passed}
 use Rattle.decode.proofs.Program.{top-small}
@@ -61,18 +63,21 @@ module _ (a b : ℕ) (check : Setting → ℕ → Check) (one : Setting → ℕ 
     unfolding outputAfter
     strip-each p room =
         record {
-          answers =
-              whole-done (channelwise a b check one) input output n p
-              (record {
-                long = l;
-                room = room;
-                passes = sym (all-done (recordCheck (channelwise a b check one)) (sizeOf a) n input 0 passes ∙ ap Done (zero-add n));
-              });
+          answers = ap stripResult (sym converted);
           each = λ k i.
               subst (EachChannel a b R (recordAt (sizeOf a) k input))
-              (sym (written-at (channelwise a b check one .bytes) (sizeOf b) (λ r. length-record b (settingOf r) _) (sizeOf a) n input (drop (n * sizeOf b) output) k i))
+              (sym (ap (λ (x : Answer). recordAt (sizeOf b) k (outputAfter (channelwise a b check one) input output x)) (sym converted) ∙ written-at (channelwise a b check one .bytes) (sizeOf b) (λ r. length-record b (settingOf r) _) (sizeOf a) n input (drop (n * sizeOf b) output) k i))
               (record-each (recordAt (sizeOf a) k input) (good k i));
         }
+      where
+        converted : Done n ≡ answerOf (channelwise a b check one) input output
+        converted =
+            whole-done (channelwise a b check one) input output n p
+            (record {
+              long = l;
+              room = room;
+              passes = sym (all-done (recordCheck (channelwise a b check one)) (sizeOf a) n input 0 passes ∙ ap Done (zero-add n));
+            })
 
 -- ---- decoding
 scene-decoded : (s : Setting) → Valid s → (code : ℕ) → codeCheck s code ≡ Passed → IsDecoded s code (sceneBits s code)

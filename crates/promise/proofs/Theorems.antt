@@ -1,6 +1,6 @@
 -- DEMAND 3, THE ARCHIVE PROMISE: equal pixel strips exactly when equal ACES strips; each ACES number less than the bound from the exact
--- curve and matrix; the way back returns the same bytes, and refuses exactly when no pixel of the setting gives the record, naming the
--- first such record. For every strip of bytes, settings mixed.
+-- curve and matrix; the way back returns the same bytes, and refuses exactly when a record has no valid setting or no pixel of its setting
+-- gives it, naming the first such record. For every strip of bytes, settings mixed.
 -- Assumes nothing.
 use mathlib.Core.Path.{_≡_, refl, ap, sym, _∙_, subst}
 use mathlib.Core.Logic.{_↔_}
@@ -9,6 +9,7 @@ use Prim.Native.Nat.{ℕ, zero, suc, _+_, _*_, _/_, _≤_, _<_}
 use native.Mathlib.Nat.{le-of-eq, zero-add}
 use native.Mathlib.Omega.{arith}
 use lib.Dec.{lit<}
+use lib.IntN.{ℤ}
 use lib.ListN.{length, take, drop}
 use Rattle.rules.specs.declared.Answer.{Answer}
 use Rattle.rules.specs.declared.Answer.the-variants.{Done, Refused}
@@ -26,7 +27,7 @@ use Rattle.rules.specs.Decoding.{Decodes}
 use Rattle.rules.specs.WayBack.{codesFound, foundCheck}
 use Rattle.rules.specs.Exact.{scaleOf}
 use Rattle.rules.specs.ExactRow.{acesTolerance, WithinRow}
-use Rattle.rules.specs.Matrix.{matrixOf, acesNumber}
+use Rattle.rules.specs.Matrix.{matrixOf, acesNumber, IsAces}
 use Rattle.rules.specs.Record.{IsBytes, settingOf, pixelIn}
 use Rattle.rules.specs.Strip.{Conversion, recordCheck, records, recordAt, written, scanOf, answerOf, outputAfter, resultOf, stripAfter}
 use Rattle.rules.proofs.Results.{number-positive, done-answer, refused-answer}
@@ -34,7 +35,7 @@ use Rattle.rules.proofs.Settings.{code-passed, refused-never}
 use Rattle.rules.proofs.Records.{length-record}
 use Rattle.decode.specs.Decoded.{decoded}
 use Rattle.decode.proofs.Theorems.{decoding}
-use Rattle.aces.proofs.Theorems.{aces-within}
+use Rattle.aces.proofs.Theorems.{aces-within, equal-codes}
 use Rattle.record_conversion.specs.Conversions.{pixelToAces, acesToPixel}
 use Rattle.record_conversion.proofs.Good.{Good}
 use Rattle.strip_passes.proofs.FirstPass.{scan-passes, counted}
@@ -43,7 +44,7 @@ use Rattle.strip.proofs.Join.{whole-answer}
 use Rattle.strip.proofs.Back as back
 use Rattle.way_back.specs.Back.{pixelFor, wayBackResult}
 use Rattle.way_back.proofs.Theorems.{found-gives, one-pixel, nothing-gives}
-use Rattle.promise.specs.Words.{Accepted, HoldsPixel, made, numberIn, NearExact, Without, OnlyPixel, SomeWithout, FirstWithout, refusalOf, refusedAt, ReportsFirst, WithoutPixel, IsOnlyPixel, GivesOnly}
+use Rattle.promise.specs.Words.{Accepted, HoldsPixel, IsGrey, made, numberIn, NearExact, Without, OnlyPixel, SomeWithout, FirstWithout, refusalOf, refusedAt, ReportsFirst, WithoutPixel, IsOnlyPixel, GivesOnly}
 use Rattle.promise.proofs.Single.{same-triple, back-passes, back-same, passed-only, not-both, refused-without, refusal-number}
 use Rattle.promise.proofs.Strips.{written-at, length-at, bytes-at, aces-long, accepted-good, accepted-whole, made-records, made-long, made-at}
 
@@ -83,25 +84,47 @@ equal-strips pixels others n m a b = (λ e. ap made e, back-equal)
         (sym (made-records pixels n a) ∙ e ∙ made-records others n c)
 
 -- 2. "each ACES number made from it is less than .. from what the exact curve and matrix give"
+-- the i-th number that is written
+channel-number : (r : List ℕ) → Good pixelToAces r → (i : ℕ) → i < 3
+    → numberIn i (pixelToAces .bytes r) ≡ acesNumber (matrixOf (settingOf r)) i (decoded (settingOf r) (pixelIn r .red .0)) (decoded (settingOf r) (pixelIn r .green .0)) (decoded (settingOf r) (pixelIn r .blue .0))
+channel-number r g zero l = ap (λ (t : Triple). t .red .0) (same-triple r g)
+channel-number r g (suc zero) l = ap (λ (t : Triple). t .green .0) (same-triple r g)
+channel-number r g (suc (suc zero)) l = ap (λ (t : Triple). t .blue .0) (same-triple r g)
+channel-number r g (suc (suc (suc i))) l = absurd (omega arith)
+
 record-within : (r : List ℕ) → Good pixelToAces r → HoldsPixel r → (i : ℕ) → i < 3 → NearExact i r (pixelToAces .bytes r)
 record-within r g h i l =
-    subst (WithinRow acesTolerance (matrixOf s) i (scaleOf s) (pixelIn r .red .0) (pixelIn r .green .0) (pixelIn r .blue .0)) (sym (number i l))
+    subst (WithinRow acesTolerance (matrixOf s) i (scaleOf s) (pixelIn r .red .0) (pixelIn r .green .0) (pixelIn r .blue .0)) (sym (channel-number r g i l))
     (aces-within s (h .valid) i l (pixelIn r .red .0) (pixelIn r .green .0) (pixelIn r .blue .0)
     (code-passed s (pixelIn r .red .0) (h .pixel .red)) (code-passed s (pixelIn r .green .0) (h .pixel .green)) (code-passed s (pixelIn r .blue .0) (h .pixel .blue)))
   where
     s : Setting
     s = settingOf r
 
-    number : (i : ℕ) → i < 3
-        → numberIn i (pixelToAces .bytes r) ≡ acesNumber (matrixOf (settingOf r)) i (decoded (settingOf r) (pixelIn r .red .0)) (decoded (settingOf r) (pixelIn r .green .0)) (decoded (settingOf r) (pixelIn r .blue .0))
-    number zero l = ap (λ (t : Triple). t .red .0) (same-triple r g)
-    number (suc zero) l = ap (λ (t : Triple). t .green .0) (same-triple r g)
-    number (suc (suc zero)) l = ap (λ (t : Triple). t .blue .0) (same-triple r g)
-    number (suc (suc (suc i))) l = absurd (omega arith)
-
 pub strip-within : (pixels : List ℕ) (n : ℕ) → Accepted pixels n → (k : ℕ) → k < n → (i : ℕ) → i < 3 → NearExact i (recordAt 10 k pixels) (recordAt 28 k (made pixels))
 strip-within pixels n a k h i l =
     subst (NearExact i (recordAt 10 k pixels)) (sym (made-at pixels n a k h)) (record-within (recordAt 10 k pixels) (accepted-good pixels n a k h) (a .each k h) i l)
+
+-- DEMAND 2, "three equal codes give three equal ACES numbers", of what the strip holds: each is the code's decoded number
+record-grey : (r : List ℕ) → Good pixelToAces r → HoldsPixel r → (c : ℕ) → IsGrey r c → (i : ℕ) → i < 3 → numberIn i (pixelToAces .bytes r) ≡ decoded (settingOf r) c
+record-grey r g h c e i l =
+    let s = settingOf r in
+    let d = equal-codes s (h .valid) c (subst (λ (m : ℕ). m ≤ topOf (s .width)) (e .red) (code-passed s (pixelIn r .red .0) (h .pixel .red))) in
+    channel-number r g i l ∙ same i (decoded s) ∙ grey i l d
+  where
+    same : (i : ℕ) (number : ℕ → ℤ)
+        → acesNumber (matrixOf (settingOf r)) i (number (pixelIn r .red .0)) (number (pixelIn r .green .0)) (number (pixelIn r .blue .0)) ≡ acesNumber (matrixOf (settingOf r)) i (number c) (number c) (number c)
+    same i number = λ j. acesNumber (matrixOf (settingOf r)) i (number (e .red j)) (number (e .green j)) (number (e .blue j))
+
+    grey : (i : ℕ) → i < 3 → {x : ℤ} → IsAces (matrixOf (settingOf r)) x x x x x x → acesNumber (matrixOf (settingOf r)) i x x x ≡ x
+    grey zero l d = sym (d .red-is)
+    grey (suc zero) l d = sym (d .green-is)
+    grey (suc (suc zero)) l d = sym (d .blue-is)
+    grey (suc (suc (suc i))) l d = absurd (omega arith)
+
+pub strip-grey : (pixels : List ℕ) (n : ℕ) → Accepted pixels n → (k : ℕ) → k < n → (c : ℕ) → IsGrey (recordAt 10 k pixels) c
+    → (i : ℕ) → i < 3 → numberIn i (recordAt 28 k (made pixels)) ≡ decoded (settingOf (recordAt 10 k pixels)) c
+strip-grey pixels n a k h c e i l = ap (numberIn i) (made-at pixels n a k h) ∙ record-grey (recordAt 10 k pixels) (accepted-good pixels n a k h) (a .each k h) c e i l
 
 -- 3. "The way back, given an output long enough, turns the ACES strip made from it into the same pixel strip, byte for byte, and reports its number
 -- of records."

@@ -1,20 +1,20 @@
 -- Demand 2, of what scene strips hold. Pixel to scene writes decoded numbers, scene to pixel writes
 -- the nearest codes, each in the channel and with the setting of its own record.
 -- Assumes nothing.
-use mathlib.Core.List.{List}
+use mathlib.Core.List.{List, [], _∷_}
 use mathlib.Core.Path.{_≡_}
 use Prim.Native.Nat.{ℕ, _*_, _<_}
 use lib.ListN.{length}
-use Rattle.rules.specs.declared.Answer.the-variants.{Done}
 use Rattle.rules.specs.declared.Check.the-variants.{Passed}
 use Rattle.rules.specs.declared.Setting.{Setting}
 use Rattle.rules.specs.Setting.{Valid}
 use Rattle.rules.specs.Calls.{EncodesBy}
+use Rattle.rules.specs.Result.{done}
 use Rattle.rules.specs.Exact.{scaleOf}
 use Rattle.rules.specs.Decoding.{Decodes}
 use Rattle.rules.specs.Encoding.{sceneCheck}
 use Rattle.rules.specs.Record.{IsBytes, codeBytes, numberBytes, ofBits, settingOf, channelAt}
-use Rattle.rules.specs.Strip.{Conversion, recordAt, answerOf, outputAfter}
+use Rattle.rules.specs.Strip.{Conversion, recordAt, resultOf, stripAfter}
 use Rattle.decode.specs.Decoded.{decoded}
 
 -- a scene strip that encoding accepts: a whole number of records, and each holds a valid setting
@@ -54,5 +54,5 @@ EncodedRecord = EachChannel numberBytes codeBytes IsEncoded
 
 -- n records are converted, and what is written for each is R to it
 pub record ConvertedEach (c : Conversion) (R : (r out : List ℕ) → Type 0) (input output : List ℕ) (n : ℕ) : Type 0 where
-  pub answers : Done n ≡ answerOf c input output
-  pub each : (k : ℕ) → k < n → R (recordAt (c .from) k input) (recordAt (c .to) k (outputAfter c input output (Done n)))
+  pub answers : resultOf c input output ≡ done (n ∷ [])
+  pub each : (k : ℕ) → k < n → R (recordAt (c .from) k input) (recordAt (c .to) k (stripAfter c input output))

@@ -32,6 +32,12 @@ pub record HoldsPixel (r : List ℕ) : Type 0 where
   pub valid : Valid (settingOf r)
   pub pixel : IsPixel (settingOf r) (pixelIn r)
 
+-- a pixel record with three equal codes, c
+pub record IsGrey (r : List ℕ) (c : ℕ) : Type 0 where
+  pub red : pixelIn r .red .0 ≡ c
+  pub green : pixelIn r .green .0 ≡ c
+  pub blue : pixelIn r .blue .0 ≡ c
+
 pub record Accepted (pixels : List ℕ) (n : ℕ) : Type 0 where
   pub bytes : IsBytes pixels
   pub long : length pixels ≡ n * 10

@@ -31,7 +31,8 @@ module _ (number : Setting → ℕ → ℤ) (s : Setting) where
   abbrev pub encodeBy : ℤ → Result ℕ
   encodeBy x = single (then (settingCheck s) (sceneCheck x)) (codeBy number s x ∷ [])
 
-  -- what 01 asks of the code of a scene number: it is the nearest, and within two thirds of a code of the exact curve
+  -- what 01 asks of the code of a scene number: it is the nearest, and where it is not clipped within two thirds of a code of the exact
+  -- curve
   pub record EncodesBy (x : ℤ) (n : ℕ) : Type 0 where
     pub nearest : IsNearest (number s) (topOf (s .width)) x n
     pub two-thirds : TwoThirds (scaleOf s) (topOf (s .width)) x n
