@@ -32,12 +32,6 @@ pub record HoldsPixel (r : List ℕ) : Type 0 where
   pub valid : Valid (settingOf r)
   pub pixel : IsPixel (settingOf r) (pixelIn r)
 
--- a pixel record with three equal codes, c
-pub record IsGrey (r : List ℕ) (c : ℕ) : Type 0 where
-  pub red : pixelIn r .red .0 ≡ c
-  pub green : pixelIn r .green .0 ≡ c
-  pub blue : pixelIn r .blue .0 ≡ c
-
 pub record Accepted (pixels : List ℕ) (n : ℕ) : Type 0 where
   pub bytes : IsBytes pixels
   pub long : length pixels ≡ n * 10
@@ -56,6 +50,12 @@ made = madeBy decoded
 -- the i-th number of an ACES record
 abbrev pub numberIn : (i : ℕ) → List ℕ → ℤ
 numberIn i r = ofBits numberBytes (channelAt numberBytes r i)
+
+-- a pixel record with three equal codes, c
+pub record IsGrey (r : List ℕ) (c : ℕ) : Type 0 where
+  pub red : pixelIn r .red .0 ≡ c
+  pub green : pixelIn r .green .0 ≡ c
+  pub blue : pixelIn r .blue .0 ≡ c
 
 -- "each ACES number made from it is less than .. from what the exact curve and matrix give": the i-th
 -- number of the ACES record a, for the pixel record r
