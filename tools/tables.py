@@ -106,41 +106,40 @@ def written():
     seeds, consts = [], []
     for c in curves():
         front, first = seed(c.base, c.over, c.plus + LIFT * c.over - c.minus)
-        ratios = []
-        for w in (10, 12, 16):
-            if w not in c.widths:
-                ratios.append(0)
-                continue
+        ratios = ""
+        for w in c.widths:
             zero, ratio = seed(c.base, c.over * (2 ** w - 1), c.rise)
             assert zero == 0
-            ratios.append(ratio)
+            ratios += f"at {w} {ratio} ∷ "
             entries = "".join(f"    {x},\n" for x in table(c, w, front, first, ratio))
             consts.append(f"\npub const {c.name}_W{w}: [u64; 128] = [\n{entries}];\n")
-        seeds.append(f"seed {front} {first} {ratios[0]} {ratios[1]} {ratios[2]}")
+        seeds.append(f"seed {front} {first} ({ratios}[])")
     antt = (
         "-- The numbers that the tables are computed from. Written by tools/tables.py.\n"
         "-- Assumes nothing.\n"
         "use mathlib.Core.List.{List, [], _∷_}\n"
         "use Prim.Native.Nat.{ℕ}\n"
         "\n"
-        "-- At the scale 2 ^ 128, rounded down: base ^ (exponent at signal 0, and 2) is base ^ front * first; the ratio of a code's power to\n"
-        "-- the power of the code before it, at the widths 10, 12 and 16 (0: no such width).\n"
-        "pub record Seed : Type 0 where\n"
-        "  pub front : ℕ\n  pub first : ℕ\n  pub ratio10 : ℕ\n  pub ratio12 : ℕ\n  pub ratio16 : ℕ\n"
+        "-- a value for a width\n"
+        "pub record AtWidth (A : Type 0) : Type 0 where\n  pub width : ℕ\n  pub value : A\n"
         "\n"
-        "abbrev pub seed : (front first ratio10 ratio12 ratio16 : ℕ) → Seed\n"
-        "seed front first ratio10 ratio12 ratio16 =\n"
-        "    record { front = front; first = first; ratio10 = ratio10; ratio12 = ratio12; ratio16 = ratio16 }\n"
+        "abbrev pub at : {A : Type 0} → ℕ → A → AtWidth A\n"
+        "at width value = record { width = width; value = value }\n"
+        "\n"
+        "-- At the scale 2 ^ 128, rounded down: base ^ (exponent at signal 0, and 2) is base ^ front * first; and for each width the ratio of a\n"
+        "-- step's power to the power of the step before it.\n"
+        "pub record Seed : Type 0 where\n"
+        "  pub front : ℕ\n  pub first : ℕ\n  pub ratios : List (AtWidth ℕ)\n"
+        "\n"
+        "abbrev pub seed : (front first : ℕ) → List (AtWidth ℕ) → Seed\n"
+        "seed front first ratios = record { front = front; first = first; ratios = ratios }\n"
         "\n"
         "abbrev pub logC4Seed : Seed\n"
         f"logC4Seed = {seeds[0]}\n"
         "\n"
-        "-- curve 3: that of the first row, and those of the others\n"
-        "abbrev pub logC3First : Seed\n"
-        f"logC3First = {seeds[1]}\n"
-        "\n"
+        "-- curve 3: one for each row of its constants\n"
         "abbrev pub logC3Seeds : List Seed\n"
-        "logC3Seeds =\n    " + "\n    ∷ ".join(seeds[2:]) + "\n    ∷ []\n"
+        "logC3Seeds =\n    " + "\n    ∷ ".join(seeds[1:]) + "\n    ∷ []\n"
     )
     rt = "// The tables of the curves, one for each setting. Written by tools/tables.py.\n" + "".join(consts)
     return {"crates/curve_table/specs/Seeds.antt": antt, "crates/curve_table/src/values.rt": rt, "crates/nearest_code/src/lines.rt": lines()}

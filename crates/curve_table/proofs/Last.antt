@@ -1,21 +1,21 @@
--- The last arm of a match on the row.
+-- The last arm of a match on the row: there is no table.
 -- Assumes nothing.
 use mathlib.Core.List.{List, [], _∷_}
-use mathlib.Core.Path.{_≡_, refl, ap}
+use mathlib.Core.Path.{_≡_, refl}
 use Prim.Native.Nat.{ℕ, zero, suc, _≤_}
 use native.Mathlib.Omega.{arith}
 use lib.ListN.{length}
-use Rattle.rules.specs.Curve.{logC3, noConstants}
+use Rattle.rules.specs.Curve.{Row, logC3Rows}
 use Rattle.curves.proofs.Rows.{NoneOf, at-least}
-use Rattle.curve_table.specs.Seeds.{Seed, logC3First, logC3Seeds}
-use Rattle.curve_table.specs.Table.{seedAt, tableWith, logC3Table}
+use Rattle.curve_table.specs.Seeds.{Seed, logC3Seeds}
+use Rattle.curve_table.specs.Table.{noTable, tableIn, logC3Table}
 
-last-seed : (row : ℕ) (s : Seed) (more : List Seed) → length more ≤ row → seedAt row s more ≡ seedAt (length more) s more
-last-seed row s [] h = refl
-last-seed zero s (next ∷ more) h = absurd (omega arith)
-last-seed (suc row) s (next ∷ more) h = last-seed row next more (omega arith)
+beyond : (width row : ℕ) (rs : List Row) (ss : List Seed) → length rs ≤ row → noTable ≡ tableIn width row rs ss
+beyond width row [] ss h = refl
+beyond width row (r ∷ rs) [] h = refl
+beyond width zero (r ∷ rs) (s ∷ ss) h = absurd (omega arith)
+beyond width (suc row) (r ∷ rs) (s ∷ ss) h = beyond width row rs ss (omega arith)
 
-pub last-row : (width row : ℕ) → NoneOf 10 row → logC3Table width row ≡ logC3Table width 10
+pub no-row : (width row : ℕ) → NoneOf 11 row → noTable ≡ logC3Table width row
 unfolding logC3Table
-last-row width row h =
-    ap (λ (s : Seed). tableWith (logC3 noConstants) s width) (last-seed row logC3First logC3Seeds (at-least 10 row h))
+no-row width row h = beyond width row logC3Rows logC3Seeds (at-least 11 row h)

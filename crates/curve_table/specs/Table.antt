@@ -1,40 +1,35 @@
--- The table of a setting: 128 numbers, from which the power part of the curve is computed. A code n is cut into three digits,
--- n / 1024, n / 32 % 32 and n % 32, and its power is the product of their entries, at 0, at 64 and at 96.
+-- The table of a setting: 128 numbers, from which the power part of the curve is computed. A step i is cut into three digits,
+-- i / 1024, i / 32 % 32 and i % 32, and its power is the product of their entries, at 0, at 64 and at 96.
 -- Assumes nothing.
 use mathlib.Core.List.{List, [], _∷_, _++_}
 use Prim.Native.Nat.{ℕ, zero, suc, _+_, _-_, _*_, _/_, _^_}
 use lib.Dec.{eqb}
 use Rattle.rules.specs.Choice.{choose}
 use Rattle.rules.specs.declared.Setting.{Setting}
+use Rattle.rules.specs.declared.CurveName.{CurveName}
+use Rattle.rules.specs.declared.CurveName.the-variants.{LogC3, LogC4, Unknown}
 use Rattle.rules.specs.Fraction.{Fraction}
-use Rattle.rules.specs.Curve.{Curve, logC4, logC3, base, factor, noConstants}
-use Rattle.curves.specs.declared.CurveName.{CurveName}
-use Rattle.curves.specs.declared.CurveName.the-variants.{LogC3, LogC4, Unknown}
-use Rattle.curves.specs.Named.{named}
+use Rattle.rules.specs.Curve.{Curve, logC4, logC, Row, logC3Rows, base, factor}
+use Rattle.rules.specs.Setting.{named}
 use Rattle.curves.specs.LogC3.{rowOf}
 use Rattle.power.specs.Progression.{squareDown, progression}
-use Rattle.curve_table.specs.Seeds.{Seed, logC4Seed, logC3First, logC3Seeds}
+use Rattle.curve_table.specs.Seeds.{AtWidth, at, Seed, seed, logC4Seed, logC3Seeds}
 
--- the seed of a row of curve 3's constants, and of every row past the last the last
-abbrev pub seedAt : ℕ → Seed → List Seed → Seed
-seedAt row s [] = s
-seedAt zero s (next ∷ more) = s
-seedAt (suc row) s (next ∷ more) = seedAt row next more
+-- what a list has for a width, else a default
+abbrev pub forWidth : {A : Type 0} → A → (width : ℕ) → List (AtWidth A) → A
+forWidth default width [] = default
+forWidth default width (x ∷ xs) = choose (eqb width (x .width)) (x .value) (forWidth default width xs)
 
--- one of three, by the width
-abbrev pub byWidth : {A : Type 0} → ℕ → A → A → A → A
-byWidth width at10 at12 at16 = choose (eqb width 10) at10 (choose (eqb width 12) at12 at16)
-
-abbrev pub ratioOf : ℕ → Seed → ℕ
-ratioOf width s = byWidth width (s .ratio10) (s .ratio12) (s .ratio16)
-
--- how many entries the first digit has: top / 1024 + 1
-abbrev pub firstDigits : ℕ → ℕ
-firstDigits width = byWidth width 1 4 64
+-- how many entries the first digit has: the last step / 1024 + 1
+abbrev pub firstDigits : (width : ℕ) → ℕ
+firstDigits width = forWidth 0 width (at 10 1 ∷ at 12 4 ∷ at 16 64 ∷ [])
 
 -- the middle digit's entries stand at the scale 2 ^ 63 over this, so that each fits a word; the first digit's entries make up for it
-abbrev pub shiftOf : ℕ → ℕ
-shiftOf width = byWidth width (2 ^ 13) (2 ^ 3) 1
+abbrev pub shiftOf : (width : ℕ) → ℕ
+shiftOf width = forWidth 1 width (at 10 (2 ^ 13) ∷ at 12 (2 ^ 3) ∷ at 16 1 ∷ [])
+
+abbrev pub ratioOf : (width : ℕ) → Seed → ℕ
+ratioOf width s = forWidth 0 width (s .ratios)
 
 -- every exponent is made positive by adding this
 abbrev pub lift : ℕ
@@ -43,6 +38,10 @@ lift = 2
 abbrev pub zeros : ℕ → List ℕ
 zeros zero = []
 zeros (suc k) = 0 ∷ zeros k
+
+-- of a setting that is not valid
+abbrev pub noTable : List ℕ
+noTable = zeros 128
 
 -- the scale of the seeds
 abbrev pub fine : ℕ
@@ -59,18 +58,40 @@ abbrev pub tableWith : (c : Curve) (s : Seed) (width : ℕ) → List ℕ
 tableWith c s width = tableBy c s (ratioOf width s) (firstDigits width) (shiftOf width)
 
 unfoldable pub logC4Table : (width : ℕ) → List ℕ
-logC4Table width = choose (eqb width 12) (tableWith logC4 logC4Seed 12) (tableWith logC4 logC4Seed 16)
+logC4Table width = forWidth noTable width (at 12 (tableWith logC4 logC4Seed 12) ∷ at 16 (tableWith logC4 logC4Seed 16) ∷ [])
 
--- (the base and the factor are the same at every EI)
+-- of a row of constants and the seed of the same row
+abbrev pub tableIn : (width row : ℕ) → List Row → List Seed → List ℕ
+tableIn width n [] ss = noTable
+tableIn width n (r ∷ rs) [] = noTable
+tableIn width zero (r ∷ rs) (s ∷ ss) = tableWith (logC (r .numbers)) s width
+tableIn width (suc n) (r ∷ rs) (s ∷ ss) = tableIn width n rs ss
+
 unfoldable pub logC3Table : (width row : ℕ) → List ℕ
-logC3Table width row = tableWith (logC3 noConstants) (seedAt row logC3First logC3Seeds) width
+logC3Table width row = tableIn width row logC3Rows logC3Seeds
 
 abbrev tableFor : CurveName → (width ei : ℕ) → List ℕ
-tableFor LogC3 width ei = byWidth width (logC3Table 10 (rowOf ei)) (logC3Table 12 (rowOf ei)) (logC3Table 16 (rowOf ei))
+tableFor LogC3 width ei =
+    forWidth noTable width (at 10 (logC3Table 10 (rowOf ei)) ∷ at 12 (logC3Table 12 (rowOf ei)) ∷ at 16 (logC3Table 16 (rowOf ei)) ∷ [])
 tableFor LogC4 width ei = logC4Table width
-tableFor Unknown width ei = zeros 128
+tableFor Unknown width ei = noTable
 
--- the table of a setting. (A setting that is not valid has one of another width or EI of its curve,
--- and zeros where it names no curve.)
 unfoldable pub tableOf : Setting → List ℕ
 tableOf s = tableFor (named (s .curve)) (s .width) (s .ei)
+
+-- ---- the seed that a setting's table was computed from
+abbrev pub noSeed : Seed
+noSeed = seed 0 0 []
+
+abbrev pub seedIn : (row : ℕ) → List Seed → Seed
+seedIn n [] = noSeed
+seedIn zero (s ∷ ss) = s
+seedIn (suc n) (s ∷ ss) = seedIn n ss
+
+abbrev seedFor : CurveName → (ei : ℕ) → Seed
+seedFor LogC3 ei = seedIn (rowOf ei) logC3Seeds
+seedFor LogC4 ei = logC4Seed
+seedFor Unknown ei = noSeed
+
+abbrev pub seedOf : Setting → Seed
+seedOf s = seedFor (named (s .curve)) (s .ei)

@@ -4,9 +4,12 @@ ghost use Rattle.curve_table.specs.Table.{tableOf, logC3Table, logC4Tabl
 
 mod values;
 
-use curves::CurveName;
 use curves::log_c3::LogC3;
+use rules::CurveName;
 use rules::Setting;
+
+// of a setting that is not valid
+const NONE: [u64; 128] = [0; 128];
 
 // Curve 3 at width 10, by the row of its constants.
 fn logc3_w10(row: usize) -> [u64; 128]
@@ -23,7 +26,8 @@ fn logc3_w10(row: usize) -> [u64; 128]
         7 => values::EI800_W10,
         8 => values::EI1000_W10,
         9 => values::EI1280_W10,
-        _ => values::EI1600_W10,
+        10 => values::EI1600_W10,
+        _ => NONE,
     }
 }
 
@@ -42,7 +46,8 @@ fn logc3_w12(row: usize) -> [u64; 128]
         7 => values::EI800_W12,
         8 => values::EI1000_W12,
         9 => values::EI1280_W12,
-        _ => values::EI1600_W12,
+        10 => values::EI1600_W12,
+        _ => NONE,
     }
 }
 
@@ -61,7 +66,8 @@ fn logc3_w16(row: usize) -> [u64; 128]
         7 => values::EI800_W16,
         8 => values::EI1000_W16,
         9 => values::EI1280_W16,
-        _ => values::EI1600_W16,
+        10 => values::EI1600_W16,
+        _ => NONE,
     }
 }
 
@@ -71,7 +77,8 @@ fn logc4(width: u8) -> [u64; 128]
 {
     match width {
         12 => values::LOGC4_W12,
-        _ => values::LOGC4_W16,
+        16 => values::LOGC4_W16,
+        _ => NONE,
     }
 }
 
@@ -80,16 +87,17 @@ pub fn table(s: Setting) -> [u64; 128]
     ensures { λ r. ⌜ r ≡ tableOf s ⌝ }
 {
     let width = s.width;
-    match CurveName::of(s.curve) {
+    match curves::name_of(s.curve) {
         CurveName::LogC3 => {
             let row = LogC3::row(s.ei);
             match width {
                 10 => logc3_w10(row),
                 12 => logc3_w12(row),
-                _ => logc3_w16(row),
+                16 => logc3_w16(row),
+                _ => NONE,
             }
         }
         CurveName::LogC4 => logc4(width),
-        CurveName::Unknown => [0; 128],
+        CurveName::Unknown => NONE,
     }
 }

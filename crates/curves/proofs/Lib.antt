@@ -1,3 +1,2 @@
 mod Member
 pub mod Rows
-pub mod Named

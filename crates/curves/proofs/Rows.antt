@@ -9,7 +9,7 @@ use borrow.Author.Tests.{lt-ltb}
 use lib.Dec.{eqb, ltb}
 use lib.ListN.{length}
 use Rattle.rules.specs.Choice.{choose, member}
-use Rattle.rules.specs.Curve.{Constants, Row, rows, noConstants, constantsAt}
+use Rattle.rules.specs.Curve.{Constants, Row, logC3Rows, noConstants, constantsAt}
 use Rattle.curves.specs.LogC3.{place, rowOf}
 
 -- ---- a number that is none of the first k, as a match on it says, is at least k
@@ -46,9 +46,9 @@ constants-at ei (r ∷ rs) = go (eqb ei (r .ei)) (constants-at ei rs)
     go false e = e
 
 -- of the EI whose row is k
-pub constants-of : (ei k : ℕ) → k ≡ rowOf ei → constantsAt ei rows ≡ constantsIn k rows
+pub constants-of : (ei k : ℕ) → k ≡ rowOf ei → constantsAt ei logC3Rows ≡ constantsIn k logC3Rows
 unfolding rowOf
-constants-of ei k e = rw e (constants-at ei rows)
+constants-of ei k e = rw e (constants-at ei logC3Rows)
 
 pub constants-beyond : (n : ℕ) (rs : List Row) → length rs ≤ n → constantsIn n rs ≡ noConstants
 constants-beyond n [] h = refl

@@ -1,3 +1,3 @@
-pub mod Named
+pub mod Gap
 pub mod LogC3
 pub mod LogC4

@@ -6,10 +6,11 @@ use lib.Dec.{eqb}
 use Rattle.rules.specs.Choice.{choose}
 use Rattle.rules.specs.Curve.{Constants}
 use Rattle.rules.specs.Setting.{eisOf}
+use Rattle.rules.specs.declared.CurveName as curve
 use Rattle.curves.specs.declared.log_c3.LogC3.{LogC3}
 
 abbrev pub constantsOf : LogC3 → Constants
-constantsOf k = record { cut = k .cut; b = k .b; c = k .c; d = k .d; e = k .e; f = k .f }
+constantsOf k = record { a = k .a; cut = k .cut; b = k .b; c = k .c; d = k .d; e = k .e; f = k .f }
 
 -- where a number stands in a list, from 0, and behind the list where it does not
 abbrev pub place : ℕ → List ℕ → ℕ
@@ -18,4 +19,4 @@ place n (m ∷ ms) = choose (eqb n m) 0 (suc (place n ms))
 
 -- the row of an EI in the table of constants
 unfoldable pub rowOf : ℕ → ℕ
-rowOf ei = place ei (eisOf 3)
+rowOf ei = place ei (eisOf curve.CurveName.LogC3)

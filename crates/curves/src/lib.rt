@@ -1,6 +1,7 @@
-// The curves: which there are. The limits of each are constants of its type.
+// The curves: which there are, and the one choice by a curve's number. The limits of each are constants of its type.
 ghost use mathlib.Core.Path.{_≡_};
-ghost use Rattle.curves.specs.Named.{named};
+ghost use Rattle.rules.specs.Setting.{named};
+ghost use Rattle.curves.specs.Gap.{gapOf};
 
 mod lists;
 pub mod log_c3;
@@ -8,23 +9,26 @@ pub mod log_c4;
 
 use log_c3::LogC3;
 use log_c4::LogC4;
+use rules::CurveName;
 
-// The curve that a setting names.
-pub enum CurveName {
-    LogC3,
-    LogC4,
-    Unknown,
+// "Curve is 3 or 4.": the curve that a number names.
+pub fn name_of(curve: u8) -> CurveName
+    ensures { λ r. ⌜ r ≡ named curve ⌝ }
+{
+    match curve {
+        LogC3::NUMBER => CurveName::LogC3,
+        LogC4::NUMBER => CurveName::LogC4,
+        _ => CurveName::Unknown,
+    }
 }
 
-impl CurveName {
-    // "Curve is 3 or 4."
-    pub fn of(curve: u8) -> CurveName
-        ensures { λ r. ⌜ r ≡ named curve ⌝ }
-    {
-        match curve {
-            LogC3::NUMBER => CurveName::LogC3,
-            LogC4::NUMBER => CurveName::LogC4,
-            _ => CurveName::Unknown,
-        }
+// How far apart the decoded numbers of two codes of a curve are at least, in units.
+pub fn gap_of(curve: CurveName) -> u64
+    ensures { λ r. ⌜ r ≡ gapOf curve ⌝ }
+{
+    match curve {
+        CurveName::LogC3 => LogC3::GAP,
+        CurveName::LogC4 => LogC4::GAP,
+        CurveName::Unknown => 0,
     }
 }

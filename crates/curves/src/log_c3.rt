@@ -1,8 +1,9 @@
 // Curve 3: its number, its widths, its EIs, and its constants at each EI, from the table of 01, in
-// millionths.
+// millionths. b and f have a sign.
 ghost use mathlib.Core.Path.{_≡_};
 ghost use Rattle.rules.specs.Choice.{member};
-ghost use Rattle.rules.specs.Curve.{a, constantsAt, rows};
+ghost use Rattle.rules.specs.declared.CurveName as named;
+ghost use Rattle.rules.specs.Curve.{constantsAt, logC3Rows};
 ghost use Rattle.rules.specs.Setting.{widthsOf, eisOf};
 ghost use Rattle.curves.specs.LogC3.{constantsOf, rowOf};
 use super::lists;
@@ -10,11 +11,11 @@ use super::lists;
 pub struct LogC3 {
     pub a: u64,
     pub cut: u64,
-    pub b: u64,
+    pub b: i64,
     pub c: u64,
     pub d: u64,
     pub e: u64,
-    pub f: u64,
+    pub f: i64,
 }
 
 impl LogC3 {
@@ -25,6 +26,10 @@ impl LogC3 {
 
     // How many EIs there are.
     pub const ROWS: usize = 11;
+
+    // The decoded numbers of two codes are at least so many units apart. (At width 16 and EI 200 two
+    // are 42.89 apart before they are rounded.)
+    pub const GAP: u64 = 28;
 
     // "Always a = 5.555556."
     pub const A: u64 = 5_555556;
@@ -141,7 +146,7 @@ impl LogC3 {
 
     // of an EI that is not one of the curve's
     pub const NONE: LogC3 = LogC3 {
-        a: LogC3::A,
+        a: 0,
         cut: 0,
         b: 0,
         c: 0,
@@ -151,7 +156,7 @@ impl LogC3 {
     };
 
     pub fn has_width(width: u8) -> bool
-        ensures { λ r. ⌜ r ≡ member width (widthsOf 3) ⌝ }
+        ensures { λ r. ⌜ r ≡ member width (widthsOf named.CurveName.LogC3) ⌝ }
     {
         let widths = LogC3::WIDTHS;
         lists::is_one_of(&widths, width)
@@ -179,15 +184,14 @@ impl LogC3 {
     }
 
     pub fn has_ei(ei: u16) -> bool
-        ensures { λ r. ⌜ r ≡ member ei (eisOf 3) ⌝ }
+        ensures { λ r. ⌜ r ≡ member ei (eisOf named.CurveName.LogC3) ⌝ }
     {
         LogC3::row(ei) < LogC3::ROWS
     }
 
     // The constants of an EI.
     pub fn at(ei: u16) -> LogC3
-        ensures { λ r. ⌜ r .a ≡ a ⌝ }
-        ensures { λ r. ⌜ constantsOf r ≡ constantsAt ei rows ⌝ }
+        ensures { λ r. ⌜ constantsOf r ≡ constantsAt ei logC3Rows ⌝ }
     {
         let row = LogC3::row(ei);
         match row {

@@ -1,6 +1,7 @@
 // Curve 4: its number, its widths, its EI, and the numbers of its formula.
 ghost use mathlib.Core.Path.{_≡_};
 ghost use Rattle.rules.specs.Choice.{member};
+ghost use Rattle.rules.specs.declared.CurveName as named;
 ghost use Rattle.rules.specs.Setting.{widthsOf, eisOf};
 ghost use Rattle.curves.specs.LogC4.{IsLogC4};
 use super::lists;
@@ -27,6 +28,10 @@ impl LogC4 {
     // ".. and EI 0, since it doesn't depend on EI"
     pub const EI: u16 = 0;
 
+    // The decoded numbers of two codes are at least so many units apart. (At width 16 the first two
+    // are 29.08 apart before they are rounded.)
+    pub const GAP: u64 = 28;
+
     // "P = 6 + 14 · (1023·n - 95·top) / (928·top)"
     pub const BEGIN: u64 = 6;
 
@@ -46,14 +51,14 @@ impl LogC4 {
     pub const OVER: u64 = 1747520;
 
     pub fn has_width(width: u8) -> bool
-        ensures { λ r. ⌜ r ≡ member width (widthsOf 4) ⌝ }
+        ensures { λ r. ⌜ r ≡ member width (widthsOf named.CurveName.LogC4) ⌝ }
     {
         let widths = LogC4::WIDTHS;
         lists::is_one_of(&widths, width)
     }
 
     pub fn has_ei(ei: u16) -> bool
-        ensures { λ r. ⌜ r ≡ member ei (eisOf 4) ⌝ }
+        ensures { λ r. ⌜ r ≡ member ei (eisOf named.CurveName.LogC4) ⌝ }
     {
         ei == LogC4::EI
     }

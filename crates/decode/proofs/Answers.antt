@@ -3,19 +3,18 @@
 use mathlib.Core.List.{[], _∷_}
 use Prim.Native.Nat.{ℕ}
 use Rattle.rules.specs.declared.Setting.{Setting}
-use Rattle.rules.specs.Decoding.{Decodes}
-use Rattle.rules.specs.Exact.{scaleOf}
+use Rattle.rules.specs.Decoding.{DecodesCode}
 use Rattle.rules.specs.Refusal.{then}
 use Rattle.rules.specs.Result.{Each}
 use Rattle.rules.specs.Setting.{settingCheck, codeCheck}
 use Rattle.rules.proofs.Results.{each-single}
-use Rattle.rules.proofs.Settings.{both, code-passed}
+use Rattle.rules.proofs.Settings.{both}
 use Rattle.decode.specs.Decoded.{decoded}
 use Rattle.decode.specs.Answer.{decodeResult}
 use Rattle.decode.proofs.Theorems.{decoding}
 
-pub result-decodes : (s : Setting) (n : ℕ) → Each (Decodes (scaleOf s) n) (decodeResult s n .values)
+pub result-decodes : (s : Setting) (n : ℕ) → Each (DecodesCode s n) (decodeResult s n .values)
 unfolding decodeResult
 result-decodes s n =
-    each-single (Decodes (scaleOf s) n) (then (settingCheck s) (codeCheck s n)) (decoded s n ∷ [])
-    (λ e. let b = both (settingCheck s) (codeCheck s n) e in (decoding s (b .0) n (code-passed s n (b .1)), tt))
+    each-single (DecodesCode s n) (then (settingCheck s) (codeCheck s n)) (decoded s n ∷ [])
+    (λ e. let b = both (settingCheck s) (codeCheck s n) e in (decoding s (b .0) n (b .1), tt))

@@ -13,23 +13,22 @@ use Rattle.whole.specs.Parts.{up, dn}
 use Rattle.whole.proofs.Floor.{half-bounds}
 use Rattle.whole.proofs.Tidy.{tidy}
 use Rattle.rules.specs.declared.Setting.{Setting}
-use Rattle.rules.specs.Setting.{topOf, curveOf, Valid}
+use Rattle.rules.specs.declared.Check.the-variants.{Passed}
+use Rattle.rules.specs.Setting.{lastOf, stepOf, curveOf, codeCheck, Valid}
 use Rattle.rules.specs.Fraction.{Fraction, ratio, whole, integer, _+ℚ_, _-ℚ_, _*ℚ_, nearest, Versus, Less, Greater}
-use Rattle.rules.specs.Curve.{Curve, logC4, logC3, inToe, toeValue}
+use Rattle.rules.specs.Curve.{Curve, logC4, logC, inToe, toeValue}
 use Rattle.rules.specs.Exact.{Scale, signal, scaleOf, VersusPart, VersusExact}
 use Rattle.rules.specs.Decoding.{unit, tolerance, DecodesPart}
 use Rattle.curve_table.specs.Table.{tableOf}
 use Rattle.decode.specs.Decoded.{decoded}
-use Rattle.whole.proofs.Tests.{every}
-use Rattle.decode.proofs.Tests.{Source, tests}
-use Rattle.decode.proofs.Right.{divisor}
-use Rattle.decode.proofs.Settings.{sourceOf, passed}
+use Rattle.decode.proofs.Tests.{HasToe}
+use Rattle.decode.proofs.Settings.{gapOf, passed}
 use Rattle.decode.proofs.Theorems.{decoding}
 
--- y is less than e units from the exact value at a code
-pub record Close (e : Fraction) (k : Scale) (code : ℕ) (y : ℤ) : Type 0 where
-  pub under : VersusExact Less k (whole code) ((integer y -ℚ e) *ℚ unit)
-  pub over : VersusExact Greater k (whole code) ((integer y +ℚ e) *ℚ unit)
+-- y is less than e units from the exact value at a step
+pub record Close (e : Fraction) (k : Scale) (i : ℕ) (y : ℤ) : Type 0 where
+  pub under : VersusExact Less k (whole i) ((integer y -ℚ e) *ℚ unit)
+  pub over : VersusExact Greater k (whole i) ((integer y +ℚ e) *ℚ unit)
 
 -- a fraction's nearest whole number is at most a half away, so less than any N / D above a half
 module _ (N D : ℕ) (half : D < 2 * N) where
@@ -48,16 +47,16 @@ module _ (N D : ℕ) (half : D < 2 * N) where
   part-close k n y false h e (DecodesPart.power l g) = record { under = l; over = g }
 
 -- the toe's denominator is above 0
-divides : (c : Curve) (span top : ℕ) (t : List ℕ) (s : Source) → T (every (tests (record { curve = c; start = 0; span = span }) top t s))
-    → (n : ℕ) → T (inToe c (signal (record { curve = c; start = 0; span = span }) (whole n))) → 0 < toeValue c (signal (record { curve = c; start = 0; span = span }) (whole n)) .over
-divides logC4 span top t s ok n h = absurd h
-divides (logC3 c) span top t s ok n h = positive (c .e) span (divisor c 0 span top t s ok)
+divides : (c : Curve) (last g : ℕ) (t : List ℕ) → HasToe c last g t → (n : ℕ) → T (inToe c (signal (record { curve = c; last = last }) (whole n)))
+    → 0 < toeValue c (signal (record { curve = c; last = last }) (whole n)) .over
+divides logC4 last g t toe n h = absurd h
+divides (logC c) last g t toe n h = positive (c .e) last (toe .divisor)
   where
-    positive : (e span : ℕ) → 0 < e * span → 0 < 1 * 1 * (span - 0) * 1000000 * (e - 0)
-    positive e span h = rw (sub-zero, sub-zero) (omega arith)
+    positive : (e last : ℕ) → 0 < e * last → 0 < 1 * (last - 0) * 1000000 * (e - 0)
+    positive e last h = rw (sub-zero, sub-zero) (omega arith)
 
 -- for the tolerance of the rules, which is above a half
-pub decoded-close : (s : Setting) → Valid s → (n : ℕ) → n ≤ topOf (s .width) → Close tolerance (scaleOf s) n (decoded s n)
-decoded-close s v n h =
-    part-close (tolerance .plus) (tolerance .over) (lit< tt) (scaleOf s) n (decoded s n) (inToe (curveOf s) (signal (scaleOf s) (whole n)))
-    (divides (curveOf s) (topOf (s .width)) (topOf (s .width)) (tableOf s) (sourceOf s) (passed s v) n) refl (decoding s v n h)
+pub decoded-close : (s : Setting) → Valid s → (n : ℕ) → codeCheck s n ≡ Passed → Close tolerance (scaleOf s) (stepOf s n) (decoded s n)
+decoded-close s v n e =
+    part-close (tolerance .plus) (tolerance .over) (lit< tt) (scaleOf s) (stepOf s n) (decoded s n) (inToe (curveOf s) (signal (scaleOf s) (whole (stepOf s n))))
+    (divides (curveOf s) (lastOf s) (gapOf s) (tableOf s) (passed s v .toe) (stepOf s n)) refl (decoding s v n e)

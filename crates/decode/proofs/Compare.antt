@@ -1,23 +1,20 @@
--- A value compared with the exact value at a code x / r: from whole numbers to the rules' own comparison.
+-- A value compared with the exact value at a step x / r: from whole numbers to the rules' own comparison.
 -- Assumes nothing.
 use mathlib.Core.Path.{_≡_, sym, ap, ap₂, _∙_, subst₂}
 use mathlib.Core.List.{List}
 use Prim.Native.Nat.{ℕ, zero, suc, _+_, _-_, _*_, _^_, _≤_, _<_}
 use native.Mathlib.Nat.{mul-assoc, mul-comm, mul-pos, mul-le-mul-right, one-le-pow}
 use native.Mathlib.Omega.{arith}
-use lib.Dec.{T, ltb→lt, leb→le}
 use lib.Pow.{pow-add}
 use Rattle.whole.proofs.Powers.{mul-pow, pow-mul}
 use Rattle.whole.proofs.Tidy.{tidy}
 use Rattle.rules.specs.Fraction.{Fraction, ratio, Versus, VersusPower, cleared}
-use Rattle.rules.specs.Curve.{Curve, logC4, logC3, base, exponent, less, factor}
+use Rattle.rules.specs.Curve.{Curve, logC4, logC, base, exponent, less, factor}
 use Rattle.rules.specs.Exact.{Scale, signal, powerFor}
 use Rattle.rules.proofs.Values.{Ordered, same-value}
 use Rattle.curve_table.specs.Table.{lift}
-use Rattle.decode.proofs.Cleared.{rise, den, below, exponentAt, exponent-is}
-use Rattle.whole.proofs.Tests.{nth, passes, every}
-use Rattle.decode.proofs.Tests.{Source, tests, b, q, times, kappa, plus-less, minus-less, kappa-positive, lifted}
-use Rattle.decode.proofs.Law.{base-pos, unit-pos, q-pos}
+use Rattle.decode.proofs.Cleared.{den, below, exponentAt, exponent-is}
+use Rattle.decode.proofs.Tests.{Source, Tested, b, q, times, kappa, plus-less, minus-less}
 
 -- ---- an exponent that was lifted to be positive
 lifted-by : (c m g G X : ℕ) → g ≤ G * m → (X * c ^ G) ^ m ≡ X ^ m * c ^ g * c ^ (G * m - g)
@@ -57,9 +54,9 @@ same-power-for c x y e =
         ∙ sym (ap₂ (λ (x y : ℕ). x + y) (product H T M L p′ z′ z) (product H T M K n z z′))
 
 -- the denominator of the exponent
-pub over-pos : (c : Curve) (start span x r : ℕ) → 0 < den c * (r * span) → 0 < exponent c (signal (record { curve = c; start = start; span = span }) (ratio x r)) .over
-over-pos logC4 start span x r h = simp tidy (omega arith)
-over-pos (logC3 k) start span x r h = simp tidy (omega arith)
+pub over-pos : (c : Curve) (last x r : ℕ) → 0 < den c * (r * last) → 0 < exponent c (signal (record { curve = c; last = last }) (ratio x r)) .over
+over-pos logC4 last x r h = simp tidy (omega arith)
+over-pos (logC k) last x r h = simp tidy (omega arith)
 
 -- the power for a value, its part above 0
 abbrev pub wanted : Scale → Fraction → ℕ
@@ -75,23 +72,19 @@ wanted-is k v =
     (regroup (v .plus) (factor (k .curve) .over) (less (k .curve) .over) (less (k .curve) .plus) (v .over) (times k))
     (regroup (v .minus) (factor (k .curve) .over) (less (k .curve) .over) (less (k .curve) .minus) (v .over) (times k))
 
-module _ (k : Scale) (top : ℕ) (t : List ℕ) (s : Source) (ok : T (every (tests k top t s))) where
-  pub kappa-pos : 0 < kappa k
-  unfolding nth
-  kappa-pos = ltb→lt 0 (kappa k) (passes (tests k top t s) ok kappa-positive)
-
+module _ {k : Scale} {g : ℕ} {t : List ℕ} {s : Source} (ok : Tested k g t s) where
   times-pos : 0 < times k
-  times-pos = part (times k) (unit-pos k top t s ok)
+  times-pos = part (times k) (ok .unit-pos)
     where
       part : (T : ℕ) → 0 < 2 ^ 53 * T → 0 < T
       part T h = omega arith
 
   -- the factors by which the tests' scale differs from the rules'
   pub lift-pos : 0 < b k ^ lift * times k
-  lift-pos = mul-pos (one-le-pow lift (b k) (base-pos k top t s ok)) times-pos
+  lift-pos = mul-pos (one-le-pow lift (b k) (ok .base-pos)) times-pos
 
   less-over-pos : 0 < less (k .curve) .over
-  less-over-pos = right (factor (k .curve) .over) (less (k .curve) .over) kappa-pos
+  less-over-pos = right (factor (k .curve) .over) (less (k .curve) .over) (ok .kappa-pos)
     where
       right : (H M : ℕ) → 0 < H * M → 0 < M
       right H zero h = absurd (omega arith)
@@ -102,16 +95,14 @@ module _ (k : Scale) (top : ℕ) (t : List ℕ) (s : Source) (ok : T (every (tes
 
   module _ (x r : ℕ) (pr : 0 < r) where
     pub lifted-ok : exponentAt k x r .minus ≤ lift * exponentAt k x r .over
-    unfolding nth
     lifted-ok =
-        times-r (rise (k .curve)) (k .start) (below (k .curve)) (den (k .curve)) (k .span)
-        (leb→le (exponentAt k 0 1 .minus) (lift * q k) (passes (tests k top t s) ok lifted))
+        times-r (below (k .curve)) (den (k .curve)) (k .last) (ok .lifted)
       where
-        times-r : (i a m o p : ℕ) → i * (a * 1) + m * (1 * p) ≤ lift * (o * (1 * p)) → i * (a * r) + m * (r * p) ≤ lift * (o * (r * p))
-        times-r i a m o p h = omega (arith, mul-le-mul-right r h)
+        times-r : (m o p : ℕ) → m * (1 * p) ≤ lift * (o * (1 * p)) → m * (r * p) ≤ lift * (o * (r * p))
+        times-r m o p h = omega (arith, mul-le-mul-right r h)
 
-    pub exponent-over-pos : 0 < den (k .curve) * (r * k .span)
-    exponent-over-pos = times-r (den (k .curve)) (k .span) (mul-pos (q-pos k top t s ok) pr)
+    pub exponent-over-pos : 0 < den (k .curve) * (r * k .last)
+    exponent-over-pos = times-r (den (k .curve)) (k .last) (mul-pos (ok .q-pos) pr)
       where
         times-r : (o p : ℕ) → 0 < o * (1 * p) * r → 0 < o * (r * p)
         times-r o p h = omega arith
@@ -121,7 +112,7 @@ module _ (k : Scale) (top : ℕ) (t : List ℕ) (s : Source) (ok : T (every (tes
         → R ((wanted k v * b k ^ lift) ^ exponentAt k x r .over) (b k ^ (exponentAt k x r .plus + (lift * exponentAt k x r .over - exponentAt k x r .minus)) * powerFor (k .curve) v .over ^ exponentAt k x r .over)
         → VersusPower R (powerFor (k .curve) y) (base (k .curve)) (exponent (k .curve) (signal k (ratio x r)))
     by-rules o v y pv py e f =
-        same-value o (b k) (base-pos k top t s ok) (powerFor (k .curve) v) (powerFor (k .curve) y) (exponentAt k x r) (exponent (k .curve) (signal k (ratio x r)))
-        (power-over-pos v pv) (power-over-pos y py) exponent-over-pos (over-pos (k .curve) (k .start) (k .span) x r exponent-over-pos)
+        same-value o (b k) (ok .base-pos) (powerFor (k .curve) v) (powerFor (k .curve) y) (exponentAt k x r) (exponent (k .curve) (signal k (ratio x r)))
+        (power-over-pos v pv) (power-over-pos y py) exponent-over-pos (over-pos (k .curve) (k .last) x r exponent-over-pos)
         (same-power-for (k .curve) v y e) (sym (exponent-is k x r))
-        (cleared (unlift o (b k) (exponentAt k x r .over) (exponentAt k x r .plus) (exponentAt k x r .minus) lift (wanted k v) (powerFor (k .curve) v .over) (base-pos k top t s ok) lifted-ok f))
+        (cleared (unlift o (b k) (exponentAt k x r .over) (exponentAt k x r .plus) (exponentAt k x r .minus) lift (wanted k v) (powerFor (k .curve) v .over) (ok .base-pos) lifted-ok f))

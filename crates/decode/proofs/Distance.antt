@@ -1,4 +1,4 @@
--- How far apart two decoded numbers of one code may be; and so what is true of any numbers that the rules allow for the codes of a setting.
+-- How far apart two decoded numbers of one step may be; and so what is true of any numbers that the rules allow for the codes of a setting.
 -- Assumes nothing.
 use mathlib.Core.Path.{_≡_, refl, sym, ap, _∙_, subst, subst₂}
 use mathlib.Core.Bool.{Bool, true, false}
@@ -13,21 +13,20 @@ use Rattle.whole.specs.Parts.{up, dn}
 use Rattle.whole.proofs.Powers.{mul-pow}
 use Rattle.whole.proofs.Reflect.{at, abs-is, one-zero, ltZ-of, sub-dif}
 use Rattle.whole.proofs.Near.{Near}
-use Rattle.whole.proofs.Tests.{every}
 use Rattle.rules.specs.declared.Setting.{Setting}
-use Rattle.rules.specs.Setting.{topOf, curveOf, Valid}
+use Rattle.rules.specs.declared.Check.the-variants.{Passed}
+use Rattle.rules.specs.Setting.{stepOf, codeCheck, Valid}
 use Rattle.rules.specs.Fraction.{Fraction, ratio, whole, integer, _+ℚ_, _-ℚ_, _*ℚ_, VersusPower, cleared, Less, Greater}
 use Rattle.rules.specs.Curve.{Curve, base, exponent, inToe}
-use Rattle.rules.specs.Exact.{Scale, signal, scaleOf, powerFor, VersusPart}
-use Rattle.rules.specs.Decoding.{unit, tolerance, DecodesPart, DecodesWithin, Decodes}
+use Rattle.rules.specs.Exact.{Scale, signal, powerFor, VersusPart}
+use Rattle.rules.specs.Decoding.{unit, tolerance, DecodesPart, DecodesWithin, DecodesCode}
 use Rattle.rules.proofs.Values.{less}
-use Rattle.curve_table.specs.Table.{tableOf}
+use Rattle.rules.proofs.Codes.{code-passed, step-rises}
 use Rattle.decode.specs.Decoded.{offset, raw, decoded}
-use Rattle.decode.proofs.Tests.{Source, tests, kappa, plus-less, minus-less}
-use Rattle.decode.proofs.Law.{base-pos}
+use Rattle.decode.proofs.Tests.{Source, Tested, kappa, plus-less, minus-less}
 use Rattle.decode.proofs.Compare.{wanted-is, over-pos, power-over-pos, exponent-over-pos}
-use Rattle.decode.proofs.Settings.{sourceOf, passed}
-use Rattle.decode.proofs.Theorems.{decoding, raw-apart}
+use Rattle.decode.proofs.Settings.{passed}
+use Rattle.decode.proofs.Theorems.{decoding, raw-apart, gap-large}
 use Rattle.decode.proofs.Limit.{raw-limited}
 
 -- ---- a fraction below a power is below a fraction above it
@@ -64,10 +63,9 @@ power-of R c t x true e v = true-false e
 power-of R c t x false e (VersusPart.power v) = v
 
 -- ---- numbers less than N / D from the exact value are at most b apart, where 2 * N / D is at most b + 1
-module _ (N D b : ℕ) (pD : 0 < D) (small : 2 * N ≤ suc b * D) (c : Curve) (start span top : ℕ) (t : List ℕ) (s : Source)
-    (ok : T (every (tests (record { curve = c; start = start; span = span }) top t s))) (n : ℕ) where
-  abbrev k : Scale
-  k = record { curve = c; start = start; span = span }
+module _ (N D b : ℕ) (pD : 0 < D) (small : 2 * N ≤ suc b * D) {k : Scale} {g : ℕ} {t : List ℕ} {s : Source} (ok : Tested k g t s) (n : ℕ) where
+  abbrev c : Curve
+  c = k .curve
 
   abbrev lo : ℤ → Fraction
   lo y = (integer y -ℚ ratio N D) *ℚ unit
@@ -82,8 +80,8 @@ module _ (N D b : ℕ) (pD : 0 < D) (small : 2 * N ≤ suc b * D) (c : Curve) (s
       (cut (kappa k) (lo y .plus) (lo y .minus) (hi y′ .plus) (hi y′ .minus) (lo y .over * plus-less k) (lo y .over * minus-less k)
       (subst₂ (λ (v w : ℕ). v < w) (wanted-is k (lo y)) (wanted-is k (hi y′))
       (lt-of-mul-lt-mul-right (powerFor c (lo y) .over)
-      (versus (powerFor c (lo y)) (powerFor c (hi y′)) (base c) (exponent c (signal k (whole n))) (base-pos k top t s ok) (over-pos c start span n 1 (exponent-over-pos k top t s ok n 1 (lit< tt)))
-      (power-over-pos k top t s ok (lo y) (mul-pos (mul-pos (lit< tt) pD) (lit< tt)))
+      (versus (powerFor c (lo y)) (powerFor c (hi y′)) (base c) (exponent c (signal k (whole n))) (ok .base-pos) (over-pos c (k .last) n 1 (exponent-over-pos ok n 1 (lit< tt)))
+      (power-over-pos ok (lo y) (mul-pos (mul-pos (lit< tt) pD) (lit< tt)))
       l
       g))))
 
@@ -97,32 +95,28 @@ module _ (N D b : ℕ) (pD : 0 < D) (small : 2 * N ≤ suc b * D) (c : Curve) (s
         low = no-more y′ y (power-of Less c (signal k (whole n)) (lo y′) part e l′) (power-of Greater c (signal k (whole n)) (hi y) part e g);
       }
 
-  -- THE DISTANCE of two decoded numbers of a code
+  -- THE DISTANCE of two decoded numbers of a step
   pub numbers-near : (y y′ : ℤ) → DecodesWithin (ratio N D) k n y → DecodesWithin (ratio N D) k n y′ → Near y y′ b
   numbers-near y y′ = in-part y y′ (inToe c (signal k (whole n))) refl
 
 -- ---- of a valid setting, for any numbers that the rules allow
+module _ (s : Setting) (v : Valid s) where
+  -- they are at most one unit from the number that is computed
+  pub decodes-near : (n : ℕ) → codeCheck s n ≡ Passed → (y : ℤ) → DecodesCode s n y → Near y (decoded s n) 1
+  decodes-near n e y p = numbers-near (tolerance .plus) (tolerance .over) 1 (lit< tt) (lit≤ tt) (passed s v) (stepOf s n) y (decoded s n) p (decoding s v n e)
 
--- they are at most one unit from the number that is computed
-pub decodes-near : (s : Setting) → Valid s → (n : ℕ) → n ≤ topOf (s .width) → (y : ℤ) → Decodes (scaleOf s) n y → Near y (decoded s n) 1
-decodes-near s v n h y p =
-    numbers-near (tolerance .plus) (tolerance .over) 1 (lit< tt) (lit≤ tt) (curveOf s) 0 (topOf (s .width)) (topOf (s .width)) (tableOf s) (sourceOf s) (passed s v) n y (decoded s n) p (decoding s v n h)
+  -- they rise strictly with the code
+  pub decodes-rises : (m n : ℕ) → codeCheck s m ≡ Passed → codeCheck s n ≡ Passed → m < n → (x y : ℤ) → DecodesCode s m x → DecodesCode s n y → x <ℤ y
+  decodes-rises m n e f h x y p q =
+      ltZ-of (at x) (at y)
+      (omega (arith, decodes-near m e x p .high, decodes-near n f y q .low, sub-dif (raw s (stepOf s m)) offset, sub-dif (raw s (stepOf s n)) offset, gap-large s v, raw-apart s v (stepOf s m) (stepOf s n) (step-rises s m n e f h) (code-passed s n f)))
 
--- they rise strictly with the code
-pub decodes-rises : (s : Setting) → Valid s → (m n : ℕ) → m < n → n ≤ topOf (s .width) → (x y : ℤ) → Decodes (scaleOf s) m x → Decodes (scaleOf s) n y → x <ℤ y
-decodes-rises s v m n h g x y p q =
-    ltZ-of (at x) (at y)
-    (omega (arith, decodes-near s v m (before h g) x p .high, decodes-near s v n g y q .low, sub-dif (raw s m) offset, sub-dif (raw s n) offset, raw-apart s v m n h g))
-  where
-    before : {t : ℕ} → m < n → n ≤ t → m ≤ t
-    before h g = omega arith
+  -- and they are at most 2 ^ 33, without their sign
+  pub decodes-small : (n : ℕ) → codeCheck s n ≡ Passed → (y : ℤ) → DecodesCode s n y → natAbs y ≤ 2 ^ 33
+  decodes-small n e y p =
+      let near = decodes-near n e y p in
+      omega (arith, abs-is y, one-zero y, near .high, near .low, sub-dif (raw s (stepOf s n)) offset, raw-limited s v (stepOf s n) (code-passed s n e))
 
--- and they are at most 2 ^ 33, without their sign
-pub decodes-small : (s : Setting) → Valid s → (n : ℕ) → n ≤ topOf (s .width) → (y : ℤ) → Decodes (scaleOf s) n y → natAbs y ≤ 2 ^ 33
-decodes-small s v n h y p =
-    let near = decodes-near s v n h y p in
-    omega (arith, abs-is y, one-zero y, near .high, near .low, sub-dif (raw s n) offset, raw-limited s v n h)
-
--- the number that is computed among them
-pub decoded-small : (s : Setting) → Valid s → (n : ℕ) → n ≤ topOf (s .width) → natAbs (decoded s n) ≤ 2 ^ 33
-decoded-small s v n h = decodes-small s v n h (decoded s n) (decoding s v n h)
+  -- the number that is computed among them
+  pub decoded-small : (n : ℕ) → codeCheck s n ≡ Passed → natAbs (decoded s n) ≤ 2 ^ 33
+  decoded-small n e = decodes-small n e (decoded s n) (decoding s v n e)

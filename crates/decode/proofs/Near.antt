@@ -1,5 +1,5 @@
 -- Of a scale whose tests are passed: in the power part the decoded number is less than a tolerance from the exact value, where there is room
--- for it at the code. For the tolerance of the rules there is.
+-- for it at the step. For the tolerance of the rules there is.
 -- Assumes nothing.
 use mathlib.Core.Path.{_≡_, ap, _∙_, subst}
 use mathlib.Core.List.{List}
@@ -24,9 +24,9 @@ use Rattle.curve_table.specs.Table.{lift}
 use Rattle.decode.specs.Decoded.{offset, product, powerRaw, decoderOf}
 use Rattle.decode.proofs.Cleared.{above, exponentAt}
 use Rattle.whole.proofs.Tests.{nth, passes, every}
-use Rattle.decode.proofs.Tests.{Source, tests, b, by, q, times, kappa, plus-less, minus-less, begin, entry, unit, first, bias, roomTests, has-room}
+use Rattle.decode.proofs.Tests.{Source, Tested, b, by, q, times, kappa, plus-less, minus-less, begin, entry, unit, first, bias, roomTests}
 use Rattle.decode.proofs.Law.{q-nonzero, law, product-positive}
-use Rattle.decode.proofs.Compare.{kappa-pos, lift-pos, wanted, wanted-is, lifted-ok, by-rules}
+use Rattle.decode.proofs.Compare.{lift-pos, wanted, wanted-is, lifted-ok, by-rules}
 
 -- ---- naturals: a difference that stops at 0
 cut-lt : (A B C w : ℕ) → 0 < C → A * w < B * w + C → (A - B) * w < C
@@ -62,7 +62,7 @@ with-bound : (N D : ℕ) (y : ℤ) (u : ℕ) → up y + offset ≡ u + dn y
     → Versus (λ i j. i ≡ j) (record { plus = D * u + N; minus = D * offset; over = D * 2 ^ 24 }) ((integer y +ℚ ratio N D) *ℚ decoding.unit)
 with-bound N D y u e = simp tidy (omega (arith, ap (λ (w : ℕ). w * (D * D * 2 ^ 24)) e))
 
--- ROOM at the code n for a tolerance N / D: the number less N / D is too small for the product v, and with it too large for v + 5, between
+-- ROOM at the step n for a tolerance N / D: the number less N / D is too small for the product v, and with it too large for v + 5, between
 -- which the power is
 pub record Room (k : Scale) (t : List ℕ) (n N D : ℕ) : Type 0 where
   pub low :
@@ -72,7 +72,7 @@ pub record Room (k : Scale) (t : List ℕ) (n N D : ℕ) : Type 0 where
       D * kappa k * (product t n + 5)
       < ((D * powerRaw (decoderOf k) t n + N) * kappa k + D * 2 ^ 24 * plus-less k - (D * offset * kappa k + D * 2 ^ 24 * minus-less k)) * 2 ^ 29
 
-module _ (k : Scale) (top : ℕ) (t : List ℕ) (s : Source) (ok : T (every (tests k top t s))) (n : ℕ) (from : first k ≤ n) (to : n ≤ top) where
+module _ {k : Scale} {g : ℕ} {t : List ℕ} {s : Source} (ok : Tested k g t s) (n : ℕ) (from : first k ≤ n) (to : n ≤ k .last) where
   -- the number, with the offset
   abbrev u : ℕ
   u = powerRaw (decoderOf k) t n
@@ -85,19 +85,18 @@ module _ (k : Scale) (top : ℕ) (t : List ℕ) (s : Source) (ok : T (every (tes
       record {
         low =
             low-enough D N (kappa k) u (product t n) i (2 ^ 29) (D * 2 ^ 24 * plus-less k) (D * 2 ^ 24 * minus-less k) offset
-            (mul-pos (mul-pos pD (kappa-pos k top t s ok)) (product-positive k top t s ok n from to)) below (passes (roomTests k N D i j) r 0);
+            (mul-pos (mul-pos pD (ok .kappa-pos)) (product-positive ok n from to)) below (passes (roomTests k N D i j) r 0);
         high = high-enough D N (kappa k) u (product t n) j (2 ^ 29) (D * 2 ^ 24 * plus-less k) (D * 2 ^ 24 * minus-less k) offset above (passes (roomTests k N D i j) r 1);
       }
 
   -- for the rules' tolerance, by the tests
   pub room : Room k t n (tolerance .plus) (tolerance .over)
-  unfolding nth
   room =
       room-by (tolerance .plus) (tolerance .over) (lit< tt) (bias k) (bias k) (div-mul-le-self (product t n + bias k) (2 ^ 29)) (lt-div-mul-add {a = product t n + bias k} {b = 2 ^ 29} (lit< tt))
-      (passes (tests k top t s) ok has-room)
+      (ok .has-room)
 
   exponent-at : begin k + n * by k ≡ exponentAt k n 1 .plus + (lift * q k - exponentAt k n 1 .minus)
-  exponent-at = omega (arith, lifted-ok k top t s ok n 1 (lit< tt))
+  exponent-at = omega (arith, lifted-ok ok n 1 (lit< tt))
 
   -- the value (p - m) / (D * 2 ^ 24) is below the exact value, above it
   module _ (D : ℕ) (pD : 0 < D) (p m : ℕ) (y : Fraction) (py : 0 < y .over) (e : Versus (λ i j. i ≡ j) (record { plus = p; minus = m; over = D * 2 ^ 24 }) y) where
@@ -107,18 +106,18 @@ module _ (k : Scale) (top : ℕ) (t : List ℕ) (s : Source) (ok : T (every (tes
     below-power : (p * kappa k + D * 2 ^ 24 * plus-less k - (m * kappa k + D * 2 ^ 24 * minus-less k)) * 2 ^ 29 < D * kappa k * product t n
         → VersusPower Less (powerFor (k .curve) y) (base (k .curve)) (exponent (k .curve) (signal k (whole n)))
     below-power h =
-        by-rules k top t s ok n 1 (lit< tt) less value y (mul-pos pD (lit< tt)) py e
-        (below-lt (wanted k value * b k ^ lift) (powerFor (k .curve) value .over) (q-nonzero k top t s ok)
-        (scaled-low (wanted k value) (b k ^ lift) (times k) (factor (k .curve) .over) (curve.less (k .curve) .over) D (product t n) (lift-pos k top t s ok) (rw (wanted-is k value) h))
-        (subst (λ (i : ℕ). Below (b k) (q k) i (entry k * product t n) (unit k)) exponent-at (law k top t s ok n to .lower)))
+        by-rules ok n 1 (lit< tt) less value y (mul-pos pD (lit< tt)) py e
+        (below-lt (wanted k value * b k ^ lift) (powerFor (k .curve) value .over) (q-nonzero ok)
+        (scaled-low (wanted k value) (b k ^ lift) (times k) (factor (k .curve) .over) (curve.less (k .curve) .over) D (product t n) (lift-pos ok) (rw (wanted-is k value) h))
+        (subst (λ (i : ℕ). Below (b k) (q k) i (entry k * product t n) (unit k)) exponent-at (law ok n to .lower)))
 
     above-power : D * kappa k * (product t n + 5) < (p * kappa k + D * 2 ^ 24 * plus-less k - (m * kappa k + D * 2 ^ 24 * minus-less k)) * 2 ^ 29
         → VersusPower Greater (powerFor (k .curve) y) (base (k .curve)) (exponent (k .curve) (signal k (whole n)))
     above-power h =
-        by-rules k top t s ok n 1 (lit< tt) (flip less) value y (mul-pos pD (lit< tt)) py e
-        (above-lt (wanted k value * b k ^ lift) (powerFor (k .curve) value .over) (q-nonzero k top t s ok)
-        (scaled-high (wanted k value) (b k ^ lift) (times k) (factor (k .curve) .over) (curve.less (k .curve) .over) D (product t n + 5) (lift-pos k top t s ok) (rw (wanted-is k value) h))
-        (subst (λ (i : ℕ). Above (b k) (q k) i (entry k * (product t n + 5)) (unit k)) exponent-at (law k top t s ok n to .upper)))
+        by-rules ok n 1 (lit< tt) (flip less) value y (mul-pos pD (lit< tt)) py e
+        (above-lt (wanted k value * b k ^ lift) (powerFor (k .curve) value .over) (q-nonzero ok)
+        (scaled-high (wanted k value) (b k ^ lift) (times k) (factor (k .curve) .over) (curve.less (k .curve) .over) D (product t n + 5) (lift-pos ok) (rw (wanted-is k value) h))
+        (subst (λ (i : ℕ). Above (b k) (q k) i (entry k * (product t n + 5)) (unit k)) exponent-at (law ok n to .upper)))
 
   -- THE BOUND: where there is room, the number less N / D is below the exact value, and with it above
   module _ (N D : ℕ) (pD : 0 < D) (r : Room k t n N D) where

@@ -1,13 +1,13 @@
 -- What the functions ask: sizes, and that the numbers they compute are those of the definitions.
 -- Assumes nothing.
-use mathlib.Core.Path.{_≡_, refl, sym, ap, _∙_}
+use mathlib.Core.Path.{_≡_, refl, sym, ap, ap₂, _∙_}
 use mathlib.Core.Bool.{Bool, true, false}
-use mathlib.Core.List.{List}
+use mathlib.Core.List.{List, [], _∷_}
 use Prim.Native.Nat.{ℕ, _+_, _-_, _*_, _/_, _^_, _≤_, _<_}
 use native.Mathlib.Nat.{lt-trans, lt-of-le-of-lt, div-le-self}
 use native.Mathlib.Omega.{arith}
 use borrow.Author.Tests.{ltb-true, ltb-false}
-use lib.Dec.{T, eqb, leb, ltb, ltb→lt, leb→le, lit<}
+use lib.Dec.{T, leb, ltb, ltb→lt, leb→le, lit<}
 use lib.IntN.{ℤ, pos, subℕ, _-ℤ_}
 use mir.Syntax.{w64}
 use mir.Val.{SFits, toZ}
@@ -17,70 +17,113 @@ use Rattle.whole.proofs.Tidy.{tidy}
 use Rattle.whole.proofs.Words.{fitsZ, readBack, read-back}
 use Rattle.rules.specs.Choice.{choose}
 use Rattle.rules.specs.Fraction.{Fraction}
-use Rattle.rules.specs.Curve.{Constants, logC3, logC4, a, constantsAt, rows}
-use Rattle.rules.specs.Setting.{topOf, Valid}
+use Rattle.rules.specs.Curve.{Curve, Constants, logC, logC4, constantsAt, logC3Rows}
+use Rattle.rules.specs.declared.CurveName.the-variants.{LogC3}
+use Rattle.rules.specs.Setting.{named, codesOf, lastOf, curveOf, Valid}
 use Rattle.rules.specs.Exact.{Scale, scaleOf}
-use Rattle.rules.proofs.Settings.{for-valid}
-use Rattle.whole.proofs.Tests.{both, both-left, both-right}
+use Rattle.rules.proofs.Settings.{forSettings, for-valid}
+use Rattle.whole.specs.Parts.{up, dn}
+use Rattle.whole.proofs.Tests.{every, nth, passes}
 use Rattle.curves.specs.declared.log_c4.LogC4.{LogC4}
 use Rattle.curves.specs.LogC4.{IsLogC4}
 use Rattle.decode.specs.Constants.{Small}
 use Rattle.rules.specs.declared.Setting.{Setting}
 use Rattle.decode.specs.declared.decoder.Decoder.{Decoder}
-use Rattle.decode.specs.Decoded.{offset, product, toeRaw, powerRaw, rawBy, Fits, decoderOf, firstOf, biasOf, toeOf, overOf}
+use Rattle.decode.specs.Decoded.{offset, product, toeRaw, powerRaw, rawBy, Fits, decoderOf, firstOf, lessUnits, biasOf, toeOf, overOf}
+use Rattle.decode.proofs.Quotient.{scaled-quotient}
 
--- ---- the numbers of curve 3's decoder
-pub first-is : (k : Constants) (top : ℕ) → (k .e * k .cut + 1000000 * k .f) * top / 10 ^ 12 + 1 ≡ firstOf (logC3 k) 0 top
-first-is k top = omega arith
+-- ---- the numbers of the decoder of a curve with a toe
+module _ (k : Constants) (p : 0 < k .a) where
+  over-is : lessUnits (logC k) .over ≡ 1000000 * k .a
+  over-is = simp tidy (omega arith)
 
-pub bias-is : (k : Constants) → 2097153 * 2 ^ 28 - 2 ^ 53 * k .b / a ≡ biasOf (logC3 k)
-bias-is k = simp tidy (omega arith)
+  less-above : lessUnits (logC k) .plus / lessUnits (logC k) .over ≡ 2 ^ 53 * up (k .b) / k .a
+  less-above = ap₂ (λ (x y : ℕ). x / y) part over-is ∙ scaled-quotient 1000000 (2 ^ 53 * up (k .b)) (k .a) (lit< tt) p
+    where
+      part : lessUnits (logC k) .plus ≡ 1000000 * (2 ^ 53 * up (k .b))
+      part = simp tidy (omega arith)
 
-pub toe-is : (k : Constants) (top : ℕ) → k .e * top * 2097153 - 2 ^ 25 * (k .f * top) ≡ toeOf (logC3 k) 0 top
-toe-is k top = omega arith
+  less-below : lessUnits (logC k) .minus / lessUnits (logC k) .over ≡ 2 ^ 53 * dn (k .b) / k .a
+  less-below = ap₂ (λ (x y : ℕ). x / y) part over-is ∙ scaled-quotient 1000000 (2 ^ 53 * dn (k .b)) (k .a) (lit< tt) p
+    where
+      part : lessUnits (logC k) .minus ≡ 1000000 * (2 ^ 53 * dn (k .b))
+      part = simp tidy (omega arith)
 
-pub decoder-is : (k : Constants) (top first bias toe over : ℕ) → first ≡ (k .e * k .cut + 1000000 * k .f) * top / 10 ^ 12 + 1
-    → bias ≡ 2097153 * 2 ^ 28 - 2 ^ 53 * k .b / a → toe ≡ k .e * top * 2097153 - 2 ^ 25 * (k .f * top) → over ≡ 2 * (k .e * top)
-    → _≡_ {A = Decoder} (record { first = first; bias = bias; toe = toe; over = over }) (decoderOf (record { curve = logC3 k; start = 0; span = top }))
-decoder-is k top first bias toe over f b t o = cc (first-is k top, bias-is k, toe-is k top)
+  bias-is : 2097153 * 2 ^ 28 + 2 ^ 53 * dn (k .b) / k .a - 2 ^ 53 * up (k .b) / k .a ≡ biasOf (logC k)
+  bias-is = ap₂ (λ (x y : ℕ). 2097153 * 2 ^ 28 + x - y) (sym less-below) (sym less-above)
+
+pub decoder-is : (k : Constants) → 0 < k .a → (last first bias toe over : ℕ) → first ≡ firstOf (logC k) last
+    → bias ≡ 2097153 * 2 ^ 28 + 2 ^ 53 * dn (k .b) / k .a - 2 ^ 53 * up (k .b) / k .a → toe ≡ toeOf (logC k) last → over ≡ overOf (logC k) last
+    → _≡_ {A = Decoder} (record { first = first; bias = bias; toe = toe; over = over }) (decoderOf (record { curve = logC k; last = last }))
+decoder-is k p last first bias toe over f b t o = cc (bias-is k p)
 
 -- ---- the numbers of curve 4's decoder
 pub numbers-are : (k : LogC4) → IsLogC4 k → (k .less ≡ 64) × (k .times ≡ 783) × (k .over ≡ 1747520)
 numbers-are k i =
     (ap (λ (x : Fraction). x .plus) (sym (i .less-is)), ap (λ (x : Fraction). x .plus) (sym (i .factor-is)), ap (λ (x : Fraction). x .over) (sym (i .factor-is)))
 
-pub decoder-is-4 : (less times over bias : ℕ) → less ≡ 64 → times ≡ 783 → over ≡ 1747520 → bias ≡ 2097153 * 2 ^ 28 - 2 ^ 53 * (less * times) / over
-    → _≡_ {A = Decoder} (record { first = 0; bias = bias; toe = 0; over = 0 }) (decoderOf (record { curve = logC4; start = 0; span = 0 }))
+pub decoder-is-4 : (less times over bias : ℕ) → less ≡ 64 → times ≡ 783 → over ≡ 1747520 → bias ≡ 2097153 * 2 ^ 28 + 2 ^ 53 * 0 / over - 2 ^ 53 * (less * times) / over
+    → _≡_ {A = Decoder} (record { first = 0; bias = bias; toe = 0; over = 0 }) (decoderOf (record { curve = logC4; last = 0 }))
 decoder-is-4 less times over bias l t o e = rw (e, l, t, o)
 
 -- ---- the scale of a setting
-pub scale-is : (s : Setting) (k : Constants) (top : ℕ) → s .curve ≡ 3 → k ≡ constantsAt (s .ei) rows → top ≡ topOf (s .width)
-    → _≡_ {A = Scale} (record { curve = logC3 k; start = 0; span = top }) (scaleOf s)
-scale-is s k top e f g = rw (e, f, g)
+pub scale-is : (s : Setting) (k : Constants) (last : ℕ) → named (s .curve) ≡ LogC3 → k ≡ constantsAt (s .ei) logC3Rows → last ≡ lastOf s
+    → _≡_ {A = Scale} (record { curve = logC k; last = last }) (scaleOf s)
+scale-is s k last e f g = rw (e, f, g)
 
--- ---- the constants of a valid setting are small, and so is its top code
-smallTest : Constants → Bool
-smallTest k = both (ltb (k .cut) (2 ^ 14)) (both (ltb (k .b) (2 ^ 17)) (both (ltb (k .e) (2 ^ 23)) (both (leb (2 ^ 22) (k .e)) (ltb (k .f) (2 ^ 17)))))
+-- ---- the constants of a valid setting are small
+smallTests : Constants → (last : ℕ) → List Bool
+smallTests k last =
+    ltb last (2 ^ 16)
+    ∷ ltb (k .cut) (2 ^ 14)
+    ∷ ltb 0 (k .a)
+    ∷ ltb (k .a) (2 ^ 29)
+    ∷ ltb (up (k .b)) (2 ^ 21)
+    ∷ ltb (dn (k .b)) (2 ^ 21)
+    ∷ leb (16 * up (k .b)) (k .a)
+    ∷ leb (16 * dn (k .b)) (k .a)
+    ∷ ltb (k .e) (2 ^ 29)
+    ∷ ltb (k .e * last) (2 ^ 41)
+    ∷ ltb (up (k .f)) (2 ^ 20)
+    ∷ ltb (dn (k .f)) (2 ^ 20)
+    ∷ leb (1000000 * dn (k .f)) (k .e * k .cut + 1000000 * up (k .f))
+    ∷ leb (2 ^ 25 * (up (k .f) * last)) (k .e * last * 2097153 + 2 ^ 25 * (dn (k .f) * last))
+    ∷ []
 
-small-of : (k : Constants) → T (smallTest k) → Small k
-unfolding smallTest
-small-of k h =
+small-of : (k : Constants) (last : ℕ) → T (every (smallTests k last)) → Small k last
+unfolding nth smallTests
+small-of k last h =
+    let test = passes (smallTests k last) h in
     record {
-      cut = ltb→lt (k .cut) (2 ^ 14) (search (both-left, both-right));
-      b = ltb→lt (k .b) (2 ^ 17) (search (both-left, both-right));
-      e = ltb→lt (k .e) (2 ^ 23) (search (both-left, both-right));
-      e-least = leb→le (2 ^ 22) (k .e) (search (both-left, both-right));
-      f = ltb→lt (k .f) (2 ^ 17) (search (both-left, both-right));
+      steps = ltb→lt _ _ (test 0);
+      cut = ltb→lt _ _ (test 1);
+      a-least = ltb→lt _ _ (test 2);
+      a = ltb→lt _ _ (test 3);
+      b-above = ltb→lt _ _ (test 4);
+      b-below = ltb→lt _ _ (test 5);
+      b-above-part = leb→le _ _ (test 6);
+      b-below-part = leb→le _ _ (test 7);
+      e = ltb→lt _ _ (test 8);
+      e-last = ltb→lt _ _ (test 9);
+      f-above = ltb→lt _ _ (test 10);
+      f-below = ltb→lt _ _ (test 11);
+      border = leb→le _ _ (test 12);
+      toe = leb→le _ _ (test 13);
     }
 
-pub constants-small : (s : Setting) → Valid s → s .curve ≡ 3 → Small (constantsAt (s .ei) rows)
-unfolding smallTest
-constants-small s v e =
-    small-of (constantsAt (s .ei) rows)
-    (rw e at (for-valid (λ c w i. choose (eqb c 3) (smallTest (constantsAt i rows)) true) tt s v))
+-- of a curve with a toe
+abbrev curveTest : Curve → (last : ℕ) → Bool
+curveTest logC4 last = true
+curveTest (logC k) last = every (smallTests k last)
 
-pub top-small : (s : Setting) → Valid s → topOf (s .width) < 2 ^ 16
-top-small s v = ltb→lt (topOf (s .width)) (2 ^ 16) (for-valid (λ c w i. ltb (topOf w) (2 ^ 16)) tt s v)
+all-small : T (forSettings (λ c w e. curveTest (curveOf (record { curve = c; width = w; ei = e })) (lastOf (record { curve = c; width = w; ei = e }))))
+unfolding smallTests codesOf
+all-small = tt
+
+pub constants-small : (s : Setting) → Valid s → named (s .curve) ≡ LogC3 → Small (constantsAt (s .ei) logC3Rows) (lastOf s)
+constants-small s v e =
+    small-of (constantsAt (s .ei) logC3Rows) (lastOf s)
+    (rw e at (for-valid (λ c w e. curveTest (curveOf (record { curve = c; width = w; ei = e })) (lastOf (record { curve = c; width = w; ei = e }))) all-small s v))
 
 -- ---- a number with its offset is small
 pub raw-small : {d : Decoder} {t : List ℕ} {n : ℕ} → Fits d t n → rawBy d t n < 2 ^ 62

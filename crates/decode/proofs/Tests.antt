@@ -1,20 +1,21 @@
--- What is computed of a scale and its table, as one list of tests, and what a passed test shows.
+-- What is computed of a scale and its table, as one list of tests; and the facts that it shows, by name.
 -- Assumes nothing.
 use mathlib.Core.Bool.{Bool, true}
 use mathlib.Core.List.{List, [], _∷_}
-use Prim.Native.Nat.{ℕ, zero, suc, _+_, _-_, _*_, _/_, _%_, _^_, _<_}
-use lib.Dec.{T, leb, ltb, eqb, ltb→lt}
+use mathlib.Core.Path.{_≡_}
+use Prim.Native.Nat.{ℕ, zero, suc, _+_, _-_, _*_, _/_, _%_, _^_, _≤_, _<_}
+use lib.Dec.{T, leb, ltb, eqb, leb→le, ltb→lt, eqb→eq}
 use lib.ListN.{length, getD, take, drop}
+use Rattle.whole.specs.Parts.{up, dn}
 use Rattle.rules.specs.Choice.{choose}
-use Rattle.rules.specs.Curve.{Curve, logC4, logC3, base, less, factor}
+use Rattle.rules.specs.Curve.{Curve, logC4, logC, Constants, base, less, factor}
 use Rattle.rules.specs.Exact.{Scale}
 use Rattle.rules.specs.Decoding.{tolerance}
 use Rattle.power.specs.Progression.{squareDown, squareUp}
-use Rattle.whole.proofs.Tests.{both, both-left, both-right, every}
+use Rattle.whole.proofs.Tests.{both, both-left, both-right, every, nth, passes}
 use Rattle.power.proofs.Certificate.{up-run, down-run}
 use Rattle.power.proofs.Rows.{row}
 use Rattle.curve_table.specs.Table.{lift, fine}
-use Rattle.decode.specs.Gap.{gap}
 use Rattle.decode.specs.Decoded.{offset, product, rawBy, decoderOf, firstOf, biasOf, toeOf}
 use Rattle.decode.proofs.Cleared.{rise, exponentAt}
 
@@ -72,7 +73,7 @@ module _ (k : Scale) where
   abbrev pub minus-less : ℕ
   minus-less = times * less (k .curve) .minus
 
-  -- the exponent of code 0, lifted
+  -- the exponent of step 0, lifted
   abbrev pub begin : ℕ
   begin = exponentAt k 0 1 .plus + (lift * q - exponentAt k 0 1 .minus)
 
@@ -83,9 +84,9 @@ module _ (k : Scale) where
   abbrev pub unit : ℕ
   unit = 2 ^ 53 * times
 
-  -- the first code of the power part
+  -- the first step of the power part
   abbrev pub first : ℕ
-  first = firstOf (k .curve) (k .start) (k .span)
+  first = firstOf (k .curve) (k .last)
 
   abbrev pub bias : ℕ
   bias = biasOf (k .curve)
@@ -97,19 +98,53 @@ module _ (k : Scale) where
       ∷ ltb (D * kappa * 2 ^ 29 + 4 * (D * kappa) + D * offset * kappa * 2 ^ 29 + D * 2 ^ 24 * minus-less * 2 ^ 29) (N * kappa * 2 ^ 29 + D * 2 ^ 24 * plus-less * 2 ^ 29 + D * kappa * j)
       ∷ []
 
--- curve 4 has no toe
-abbrev pub toeTests : Curve → (start span : ℕ) → List ℕ → List Bool
-toeTests logC4 start span t = []
-toeTests (logC3 c) start span t =
-    leb (2 ^ 25 * (1000000 * start + c .f * span)) (c .e * span * (2 * offset + 1))
-    ∷ ltb 0 (c .e * span)
-    ∷ leb (gap * (2 * (c .e * span))) (2 ^ 25 * 1000000)
-    ∷ leb (rawBy (decoderOf (record { curve = logC3 c; start = start; span = span })) t (firstOf (logC3 c) start span - 1) + gap)
-    (rawBy (decoderOf (record { curve = logC3 c; start = start; span = span })) t (firstOf (logC3 c) start span))
+  -- how many entries the first digit has
+  abbrev pub count : ℕ
+  count = k .last / 1024 + 1
+
+-- ---- the toe, of a curve that has one. Numbers are to be g apart.
+
+-- its number at the last step before the power part, and at the first step of that
+abbrev borderRaw : (c : Constants) (last : ℕ) (t : List ℕ) → ℕ → ℕ
+borderRaw c last t i = rawBy (decoderOf (record { curve = logC c; last = last })) t i
+
+abbrev pub toeTests : Curve → (last g : ℕ) → List ℕ → List Bool
+toeTests logC4 last g t = []
+toeTests (logC c) last g t =
+    leb (2 ^ 25 * (up (c .f) * last)) (c .e * last * (2 * offset + 1) + 2 ^ 25 * (dn (c .f) * last))
+    ∷ ltb 0 (c .e * last)
+    ∷ leb (g * (2 * (c .e * last))) (2 ^ 25 * 1000000)
+    ∷ leb (borderRaw c last t (firstOf (logC c) last - 1) + g) (borderRaw c last t (firstOf (logC c) last))
+    ∷ leb (1000000 * dn (c .f)) (c .e * c .cut + 1000000 * up (c .f))
     ∷ []
 
-abbrev pub tests : (k : Scale) (top : ℕ) (t : List ℕ) (s : Source) → List Bool
-tests k top t s =
+pub record Toe (c : Constants) (last g : ℕ) (t : List ℕ) : Type 0 where
+  pub room : 2 ^ 25 * (up (c .f) * last) ≤ c .e * last * (2 * offset + 1) + 2 ^ 25 * (dn (c .f) * last)
+  pub divisor : 0 < c .e * last
+  pub steps : g * (2 * (c .e * last)) ≤ 2 ^ 25 * 1000000
+  pub border-rises : borderRaw c last t (firstOf (logC c) last - 1) + g ≤ borderRaw c last t (firstOf (logC c) last)
+  pub border-above : 1000000 * dn (c .f) ≤ c .e * c .cut + 1000000 * up (c .f)
+
+abbrev pub HasToe : Curve → (last g : ℕ) → List ℕ → Type 0
+HasToe logC4 last g t = Unit {0}
+HasToe (logC c) last g t = Toe c last g t
+
+toe-tested : (c : Curve) (last g : ℕ) (t : List ℕ) → T (every (toeTests c last g t)) → HasToe c last g t
+unfolding nth
+toe-tested logC4 last g t h = tt
+toe-tested (logC c) last g t h =
+    let test = passes (toeTests (logC c) last g t) h in
+    record {
+      room = leb→le _ _ (test 0);
+      divisor = ltb→lt _ _ (test 1);
+      steps = leb→le _ _ (test 2);
+      border-rises = leb→le _ _ (test 3);
+      border-above = leb→le _ _ (test 4);
+    }
+
+-- ---- all of them, of a scale k, its table t and what that was made from
+abbrev pub tests : (k : Scale) (g : ℕ) (t : List ℕ) (s : Source) → List Bool
+tests k g t s =
     ltb 0 (b k)
     ∷ up-run (b k) fine (q k) (by k) 0 (s .ratio) (bitsOf (q k)) 1 0 (s .ratio)
     ∷ down-run (b k) fine (q k) (by k) 0 (s .ratio + slack) (bitsOf (q k)) 1 0 (s .ratio + slack)
@@ -118,114 +153,89 @@ tests k top t s =
     ∷ ltb 0 (unit k)
     ∷ eqb (s .shift * (2 ^ 63 / s .shift)) (2 ^ 63)
     ∷ allBelow (2 ^ 64) t
-    ∷ row fine (entry k) (4 * (s .shift * unit k)) (squareDown fine 10 (s .ratio)) (squareUp fine 10 (s .ratio + slack)) (b k ^ s .front * s .first) (b k ^ s .front * (s .first + slack)) (take (top / 1024 + 1) t)
+    ∷ row fine (entry k) (4 * (s .shift * unit k)) (squareDown fine 10 (s .ratio)) (squareUp fine 10 (s .ratio + slack)) (b k ^ s .front * s .first) (b k ^ s .front * (s .first + slack)) (take (count k) t)
     ∷ row fine 1 (2 ^ 63 / s .shift) (squareDown fine 5 (s .ratio)) (squareUp fine 5 (s .ratio + slack)) fine fine (take 32 (drop 64 t))
     ∷ row fine 1 (2 ^ 63) (s .ratio) (s .ratio + slack) fine fine (take 32 (drop 96 t))
-    ∷ eqb (length (take (top / 1024 + 1) t)) (top / 1024 + 1)
+    ∷ eqb (length (take (count k) t)) (count k)
     ∷ eqb (length (take 32 (drop 64 t))) 32
     ∷ eqb (length (take 32 (drop 96 t))) 32
     ∷ ltb 0 (q k)
     ∷ ltb 0 (entry k * unit k)
     ∷ leb (exponentAt k 0 1 .minus) (lift * q k)
     ∷ leb fine (s .ratio)
-    ∷ leb ((gap * 2 ^ 29 + 5) * fine + 5 * (s .ratio - fine)) (product t (first k) * (s .ratio - fine))
+    ∷ leb ((g * 2 ^ 29 + 5) * fine + 5 * (s .ratio - fine)) (product t (first k) * (s .ratio - fine))
     ∷ ltb 5 (product t (first k))
     ∷ every (roomTests k (tolerance .plus) (tolerance .over) (bias k) (bias k))
     ∷ ltb 0 (kappa k)
-    ∷ ltb 0 (k .span)
-    ∷ every (toeTests (k .curve) (k .start) (k .span) t)
+    ∷ every (toeTests (k .curve) (k .last) g t)
     ∷ allBelow (3 * 2 ^ 62) (drop 96 t)
-    ∷ ltb (2 ^ 25 * 1000000 * top + toeOf (k .curve) (k .start) (k .span)) (2 ^ 62)
+    ∷ ltb (2 ^ 25 * 1000000 * k .last + toeOf (k .curve) (k .last)) (2 ^ 62)
+    ∷ ltb (bias k) (2 ^ 62)
     ∷ []
 
--- ---- the tests by their places in the lists
-abbrev pub base-positive : ℕ
-base-positive = 0
+pub record Tested (k : Scale) (g : ℕ) (t : List ℕ) (s : Source) : Type 0 where
+  -- the seeds: below and above the powers
+  pub base-pos : 0 < b k
+  pub ratio-low : T (up-run (b k) fine (q k) (by k) 0 (s .ratio) (bitsOf (q k)) 1 0 (s .ratio))
+  pub ratio-high : T (down-run (b k) fine (q k) (by k) 0 (s .ratio + slack) (bitsOf (q k)) 1 0 (s .ratio + slack))
+  pub first-low : T (up-run (b k) fine (q k) (begin k) (s .front) (s .first) (bitsOf (q k)) 1 (s .front) (s .first))
+  pub first-high : T (down-run (b k) fine (q k) (begin k) (s .front) (s .first + slack) (bitsOf (q k)) 1 (s .front) (s .first + slack))
+  pub unit-pos : 0 < unit k
+  -- the entries of the three digits
+  pub shifted : s .shift * (2 ^ 63 / s .shift) ≡ 2 ^ 63
+  pub entries-small : T (allBelow (2 ^ 64) t)
+  pub top-row : T (row fine (entry k) (4 * (s .shift * unit k)) (squareDown fine 10 (s .ratio)) (squareUp fine 10 (s .ratio + slack)) (b k ^ s .front * s .first) (b k ^ s .front * (s .first + slack)) (take (count k) t))
+  pub middle-row : T (row fine 1 (2 ^ 63 / s .shift) (squareDown fine 5 (s .ratio)) (squareUp fine 5 (s .ratio + slack)) fine fine (take 32 (drop 64 t)))
+  pub low-row : T (row fine 1 (2 ^ 63) (s .ratio) (s .ratio + slack) fine fine (take 32 (drop 96 t)))
+  pub top-count : length (take (count k) t) ≡ count k
+  pub middle-count : length (take 32 (drop 64 t)) ≡ 32
+  pub low-count : length (take 32 (drop 96 t)) ≡ 32
+  -- the exponent
+  pub q-pos : 0 < q k
+  pub cancel-pos : 0 < entry k * unit k
+  pub lifted : exponentAt k 0 1 .minus ≤ lift * q k
+  -- the numbers rise, and have room for the tolerance
+  pub ratio-above-one : fine ≤ s .ratio
+  pub steps : (g * 2 ^ 29 + 5) * fine + 5 * (s .ratio - fine) ≤ product t (first k) * (s .ratio - fine)
+  pub least-large : 5 < product t (first k)
+  pub has-room : T (every (roomTests k (tolerance .plus) (tolerance .over) (bias k) (bias k)))
+  pub kappa-pos : 0 < kappa k
+  pub toe : HasToe (k .curve) (k .last) g t
+  -- what is computed fits words
+  pub lows-small : T (allBelow (3 * 2 ^ 62) (drop 96 t))
+  pub toe-small : 2 ^ 25 * 1000000 * k .last + toeOf (k .curve) (k .last) < 2 ^ 62
+  pub bias-small : bias k < 2 ^ 62
 
-abbrev pub ratio-low : ℕ
-ratio-low = 1
-
-abbrev pub ratio-high : ℕ
-ratio-high = 2
-
-abbrev pub first-low : ℕ
-first-low = 3
-
-abbrev pub first-high : ℕ
-first-high = 4
-
-abbrev pub unit-positive : ℕ
-unit-positive = 5
-
-abbrev pub scales : ℕ
-scales = 6
-
-abbrev pub entries-small : ℕ
-entries-small = 7
-
-abbrev pub top-row : ℕ
-top-row = 8
-
-abbrev pub middle-row : ℕ
-middle-row = 9
-
-abbrev pub low-row : ℕ
-low-row = 10
-
-abbrev pub top-count : ℕ
-top-count = 11
-
-abbrev pub middle-count : ℕ
-middle-count = 12
-
-abbrev pub low-count : ℕ
-low-count = 13
-
-abbrev pub quotient-positive : ℕ
-quotient-positive = 14
-
-abbrev pub cancels : ℕ
-cancels = 15
-
-abbrev pub lifted : ℕ
-lifted = 16
-
-abbrev pub ratio-above-one : ℕ
-ratio-above-one = 17
-
-abbrev pub steps : ℕ
-steps = 18
-
-abbrev pub least-large : ℕ
-least-large = 19
-
-abbrev pub has-room : ℕ
-has-room = 20
-
-abbrev pub kappa-positive : ℕ
-kappa-positive = 21
-
-abbrev pub span-positive : ℕ
-span-positive = 22
-
-abbrev pub toe-right : ℕ
-toe-right = 23
-
-abbrev pub lows-small : ℕ
-lows-small = 24
-
-abbrev pub toe-small : ℕ
-toe-small = 25
-
--- of toeTests
-abbrev pub toe-added : ℕ
-toe-added = 0
-
-abbrev pub toe-divisor : ℕ
-toe-divisor = 1
-
-abbrev pub toe-steps : ℕ
-toe-steps = 2
-
-abbrev pub border-rises : ℕ
-border-rises = 3
+-- ONE LEMMA: the tests by their places in the list
+pub tested : (k : Scale) (g : ℕ) (t : List ℕ) (s : Source) → T (every (tests k g t s)) → Tested k g t s
+unfolding nth
+tested k g t s h =
+    let test = passes (tests k g t s) h in
+    record {
+      base-pos = ltb→lt _ _ (test 0);
+      ratio-low = test 1;
+      ratio-high = test 2;
+      first-low = test 3;
+      first-high = test 4;
+      unit-pos = ltb→lt _ _ (test 5);
+      shifted = eqb→eq _ _ (test 6);
+      entries-small = test 7;
+      top-row = test 8;
+      middle-row = test 9;
+      low-row = test 10;
+      top-count = eqb→eq _ _ (test 11);
+      middle-count = eqb→eq _ _ (test 12);
+      low-count = eqb→eq _ _ (test 13);
+      q-pos = ltb→lt _ _ (test 14);
+      cancel-pos = ltb→lt _ _ (test 15);
+      lifted = leb→le _ _ (test 16);
+      ratio-above-one = leb→le _ _ (test 17);
+      steps = leb→le _ _ (test 18);
+      least-large = ltb→lt _ _ (test 19);
+      has-room = test 20;
+      kappa-pos = ltb→lt _ _ (test 21);
+      toe = toe-tested (k .curve) (k .last) g t (test 22);
+      lows-small = test 23;
+      toe-small = ltb→lt _ _ (test 24);
+      bias-small = ltb→lt _ _ (test 25);
+    }

@@ -1,57 +1,71 @@
--- DEMAND 2, decoding, for every valid setting and every code from 0 to top: the decoded number is what the rules ask, and the numbers rise
--- strictly with the code.
+-- DEMAND 2, decoding, for every valid setting and each of its codes: the decoded number is what the rules ask, and the numbers rise strictly
+-- with the code.
 -- Assumes nothing.
-use mathlib.Core.Path.{_≡_, sym, subst}
-use Prim.Native.Nat.{ℕ, zero, suc, _+_, _-_, _^_, _≤_, _<_}
+use mathlib.Core.Path.{_≡_, subst}
+use Prim.Native.Nat.{ℕ, zero, suc, _+_, _-_, _≤_, _<_}
 use native.Mathlib.Omega.{arith}
+use lib.Dec.{ltb, ltb→lt, lit<}
 use lib.IntN.{ℤ, subℕ}
 use lib.Signed.{_<ℤ_}
 use Rattle.whole.proofs.Reflect.{at, ltZ-of, sub-dif}
 use Rattle.rules.specs.declared.Setting.{Setting}
-use Rattle.rules.specs.Setting.{topOf, curveOf, Valid}
+use Rattle.rules.specs.declared.Check.the-variants.{Passed}
+use Rattle.rules.specs.Setting.{lastOf, stepOf, curveOf, codeCheck, Valid}
 use Rattle.rules.specs.Exact.{scaleOf}
-use Rattle.rules.specs.Decoding.{Decodes}
+use Rattle.rules.specs.Decoding.{tolerance, Decodes, DecodesCode}
+use Rattle.rules.proofs.Settings.{for-valid}
+use Rattle.rules.proofs.Codes.{code-passed, step-rises}
 use Rattle.curve_table.specs.Table.{tableOf}
-use Rattle.decode.specs.Gap.{gap}
-use Rattle.decode.specs.Decoded.{offset, raw, decoded}
-use Rattle.decode.proofs.Right.{decodes, rises}
-use Rattle.decode.proofs.Settings.{sourceOf, passed}
+use Rattle.decode.specs.Decoded.{offset, raw, decodedAt, decoded}
+use Rattle.decode.proofs.Near.{room}
+use Rattle.decode.proofs.Right.{within, rises}
+use Rattle.decode.proofs.Settings.{sourceOf, gapOf, passed}
 
 -- "In the toe the scene number is the exact value times 2^24, to the nearest whole number, a half going up (towards plus). In the power
--- part it is a whole number less than .. away from the exact value times 2^24."
-pub decoding : (s : Setting) → Valid s → (n : ℕ) → n ≤ topOf (s .width) → Decodes (scaleOf s) n (decoded s n)
-decoding s v n h = decodes (curveOf s) 0 (topOf (s .width)) (topOf (s .width)) (tableOf s) (sourceOf s) (passed s v) n h
+-- part it is a whole number less than .. away from the exact value times 2^24.": of a step, and of a code that passes its check
+pub decoding-at : (s : Setting) → Valid s → (i : ℕ) → i ≤ lastOf s → Decodes (scaleOf s) i (decodedAt s i)
+decoding-at s v i h =
+    within (curveOf s) (lastOf s) (gapOf s) (tableOf s) (sourceOf s) (passed s v) (tolerance .plus) (tolerance .over) (lit< tt) (room (passed s v)) i h
 
-raw-step : (s : Setting) → Valid s → (n : ℕ) → n < topOf (s .width) → raw s n + gap ≤ raw s (n + 1)
-raw-step s v n h = rises (curveOf s) 0 (topOf (s .width)) (topOf (s .width)) (tableOf s) (sourceOf s) (passed s v) n h
+pub decoding : (s : Setting) → Valid s → (n : ℕ) → codeCheck s n ≡ Passed → DecodesCode s n (decoded s n)
+decoding s v n e = decoding-at s v (stepOf s n) (code-passed s n e)
 
-raw-later : (s : Setting) → Valid s → (m d : ℕ) → m + suc d ≤ topOf (s .width) → raw s m + gap ≤ raw s (m + suc d)
-raw-later s v m zero h = subst (λ (x : ℕ). raw s m + gap ≤ raw s x) (omega arith) (raw-step s v m (omega arith))
-raw-later s v m (suc d) h =
-    more (raw s m) (raw s (m + suc d)) (raw s (m + suc (suc d))) (raw-later s v m d (omega arith)) (subst (λ (x : ℕ). raw s (m + suc d) + gap ≤ raw s x) (omega arith) (raw-step s v (m + suc d) (omega arith)))
-  where
-    more : (a b c : ℕ) → a + gap ≤ b → b + gap ≤ c → a + gap ≤ c
-    more a b c h g = omega arith
+-- ---- the numbers of two steps are apart
+module _ (s : Setting) (v : Valid s) where
+  raw-step : (i : ℕ) → i < lastOf s → raw s i + gapOf s ≤ raw s (i + 1)
+  raw-step i h = rises (curveOf s) (lastOf s) (gapOf s) (tableOf s) (sourceOf s) (passed s v) i h
 
--- the numbers of two codes are apart
-pub raw-apart : (s : Setting) → Valid s → (m n : ℕ) → m < n → n ≤ topOf (s .width) → raw s m + gap ≤ raw s n
-raw-apart s v m n h g = subst (λ (x : ℕ). raw s m + gap ≤ raw s x) (apart m n h) (raw-later s v m (n - suc m) (bound m n (topOf (s .width)) h g))
-  where
-    apart : (m n : ℕ) → m < n → m + suc (n - suc m) ≡ n
-    apart m n h = omega arith
+  raw-later : (i d : ℕ) → i + suc d ≤ lastOf s → raw s i + gapOf s ≤ raw s (i + suc d)
+  raw-later i zero h = subst (λ (x : ℕ). raw s i + gapOf s ≤ raw s x) (omega arith) (raw-step i (omega arith))
+  raw-later i (suc d) h =
+      more (gapOf s) (raw s i) (raw s (i + suc d)) (raw s (i + suc (suc d))) (raw-later i d (omega arith)) (subst (λ (x : ℕ). raw s (i + suc d) + gapOf s ≤ raw s x) (omega arith) (raw-step (i + suc d) (omega arith)))
+    where
+      more : (g a b c : ℕ) → a + g ≤ b → b + g ≤ c → a + g ≤ c
+      more g a b c h f = omega arith
 
-    bound : (m n t : ℕ) → m < n → n ≤ t → m + suc (n - suc m) ≤ t
-    bound m n t h g = omega arith
+  pub raw-apart : (i j : ℕ) → i < j → j ≤ lastOf s → raw s i + gapOf s ≤ raw s j
+  raw-apart i j h g = subst (λ (x : ℕ). raw s i + gapOf s ≤ raw s x) (apart h) (raw-later i (j - suc i) (bound (lastOf s) h g))
+    where
+      apart : i < j → i + suc (j - suc i) ≡ j
+      apart h = omega arith
 
-pub raw-rises : (s : Setting) → Valid s → (m n : ℕ) → m < n → n ≤ topOf (s .width) → raw s m < raw s n
-raw-rises s v m n h g = above (raw s m) (raw s n) (raw-apart s v m n h g)
-  where
-    above : (a b : ℕ) → a + gap ≤ b → a < b
-    above a b h = omega arith
+      bound : (t : ℕ) → i < j → j ≤ t → i + suc (j - suc i) ≤ t
+      bound t h g = omega arith
 
-less-offset : (a b o : ℕ) → a < b → subℕ a o <ℤ subℕ b o
-less-offset a b o h = ltZ-of (at (subℕ a o)) (at (subℕ b o)) (omega (arith, sub-dif a o, sub-dif b o))
+  -- by the figure of the curve, which is above 2: so they rise, and so do any numbers that are at most 1 off
+  pub gap-large : 2 < gapOf s
+  gap-large = ltb→lt 2 (gapOf s) (for-valid (λ c w e. ltb 2 (gapOf (record { curve = c; width = w; ei = e }))) tt s v)
 
--- "For each setting the numbers rise strictly with the code."
-pub decoded-rises : (s : Setting) → Valid s → (m n : ℕ) → m < n → n ≤ topOf (s .width) → decoded s m <ℤ decoded s n
-decoded-rises s v m n h g = less-offset (raw s m) (raw s n) offset (raw-rises s v m n h g)
+  pub raw-rises : (i j : ℕ) → i < j → j ≤ lastOf s → raw s i < raw s j
+  raw-rises i j h g = above (gapOf s) (raw s i) (raw s j) gap-large (raw-apart i j h g)
+    where
+      above : (g a b : ℕ) → 2 < g → a + g ≤ b → a < b
+      above g a b p h = omega arith
+
+  -- "For each setting the numbers rise strictly with the code."
+  pub decoded-rises : (m n : ℕ) → codeCheck s m ≡ Passed → codeCheck s n ≡ Passed → m < n → decoded s m <ℤ decoded s n
+  decoded-rises m n p q h =
+      less-offset (raw s (stepOf s m)) (raw s (stepOf s n)) offset (raw-rises (stepOf s m) (stepOf s n) (step-rises s m n p q h) (code-passed s n q))
+    where
+      less-offset : (a b o : ℕ) → a < b → subℕ a o <ℤ subℕ b o
+      less-offset a b o h = ltZ-of (at (subℕ a o)) (at (subℕ b o)) (omega (arith, sub-dif a o, sub-dif b o))

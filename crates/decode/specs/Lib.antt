@@ -2,4 +2,3 @@ pub mod Constants
 pub mod Decoded
 pub mod Answer
 pub mod Ready
-pub mod Gap

@@ -1,29 +1,37 @@
 // Decoding with what is kept of a setting: a decoder and a table.
 ghost use mathlib.Core.Path.{_≡_};
 ghost use Prim.Native.Nat.{_+_, _-_, _*_, _/_, _^_, _≤_, _<_};
-ghost use Rattle.rules.specs.Curve.{logC3, logC4, a};
-ghost use Rattle.rules.specs.Setting.{Valid};
+ghost use Rattle.rules.specs.declared.Check.the-variants.{Passed};
+ghost use Rattle.rules.specs.Curve.{logC, logC4};
+ghost use Rattle.rules.specs.Setting.{codeCheck, Valid};
 ghost use Rattle.rules.specs.Exact.{scaleOf};
 ghost use Rattle.curves.specs.LogC3.{constantsOf};
 ghost use Rattle.curves.specs.LogC4.{IsLogC4};
 ghost use Rattle.decode.specs.Constants.{Small};
-ghost use Rattle.decode.specs.Decoded.{product, rawBy, decodedBy, decoderOf, Fits};
-use curves::CurveName;
+ghost use Rattle.decode.specs.Decoded.{product, rawBy, decodedBy, decoded, decoderOf, Fits};
+ghost use Rattle.decode.specs.Ready.{Ready};
 use curves::log_c3::LogC3;
 use curves::log_c4::LogC4;
 use rules::Code;
+use rules::CurveName;
 use rules::Scene;
 use rules::Setting;
+use rules::Step;
 
 // A number is computed with 2^20 added, so that none is below 0. Twice that and 1: the offset and a half, in halves.
-const OFFSET: i64 = 1048576;
+const OFFSET: i64 = 1 << 20;
 
-const HALVES: u64 = 2097153;
+const HALVES: u64 = (1 << 21) + 1;
+
+// A product of table entries stands at 2^29 a unit.
+const UNIT: u64 = 1 << 29;
 
 // 2^25 * 10^6: twice a unit, in the toe's millionths.
-const TOE_RISE: u64 = 33554432000000;
+const TOE_RISE: u64 = (1 << 25) * MILLION;
 
-// first: the first code of the power part. bias: what is added to a product of table entries before it is rounded.
+const MILLION: u64 = 1_000_000;
+
+// first: the first step of the power part. bias: what is added to a product of table entries before it is rounded.
 // toe and over: in the toe, what is added, and what is divided by.
 pub struct Decoder {
     pub first: u64,
@@ -32,7 +40,7 @@ pub struct Decoder {
     pub over: u64,
 }
 
-// The product of the entries of a code's three digits.
+// The product of the entries of a step's three digits.
 fn scaled(t: &[u64; 128], n: u64) -> u64
     requires { ⌜ n < 2 ^ 16 ⌝ }
     ensures { λ r. ⌜ r ≡ product (now (t .entry)) n ⌝ }
@@ -42,46 +50,46 @@ fn scaled(t: &[u64; 128], n: u64) -> u64
     whole::high_product(upper, t[96 + i % 32])
 }
 
-// The first code above the toe's border, e * cut + f.
-fn first_code(cut: u64, e: u64, f: u64, top: u64) -> u64
-    requires { ⌜ (cut < 2 ^ 14) × (e < 2 ^ 23) × (f < 2 ^ 17) × (top < 2 ^ 16) ⌝ }
-    ensures { λ r. ⌜ r ≡ (e * cut + 1000000 * f) * top / 10 ^ 12 + 1 ⌝ }
+// The first step above the toe's border, e * cut + f, where f is above - below.
+fn first_step(cut: u64, e: u64, above: u64, below: u64, last: u64) -> u64
+    requires { ⌜ (cut < 2 ^ 14) × (e < 2 ^ 29) × (above < 2 ^ 20) × (below < 2 ^ 20) × (last < 2 ^ 16) × (1000000 * below ≤ e * cut + 1000000 * above) ⌝ }
+    ensures { λ r. ⌜ r ≡ ((e * cut + 1000000 * above) * last - 1000000 * below * last) / 10 ^ 12 + 1 ⌝ }
 {
-    (e * cut + 1000000 * f) * top / 1000000000000 + 1
+    ((e * cut + MILLION * above) * last - MILLION * below * last) / (MILLION * MILLION) + 1
 }
 
 // 2^53 * part / over, rounded down. 2^53 * part may be more than a word, so it is divided in two
 // steps.
 fn lower(part: u64, over: u64) -> u64
-    requires { ⌜ (part < 2 ^ 17) × (16 * part ≤ over) × (0 < over) × (over < 2 ^ 23) ⌝ }
+    requires { ⌜ (part < 2 ^ 21) × (16 * part ≤ over) × (0 < over) × (over < 2 ^ 29) ⌝ }
     ensures { λ r. ⌜ r ≡ 2 ^ 53 * part / over ⌝ }
 {
-    let high = 1099511627776 * part;
+    let high = (1 << 40) * part;
     high / over * 8192 + high % over * 8192 / over
 }
 
-// (2^20 + 1/2 - part / over * 2^24) * 2^29, where part / over is what the power is less, times the
-// factor.
-fn bias(part: u64, over: u64) -> u64
-    requires { ⌜ (part < 2 ^ 17) × (16 * part ≤ over) × (0 < over) × (over < 2 ^ 23) ⌝ }
-    ensures { λ r. ⌜ r ≡ 2097153 * 2 ^ 28 - 2 ^ 53 * part / over ⌝ }
+// (2^20 + 1/2 - (above - below) / over * 2^24) * 2^29, where (above - below) / over is what the power
+// is less, times the factor.
+fn bias(above: u64, below: u64, over: u64) -> u64
+    requires { ⌜ (above < 2 ^ 21) × (16 * above ≤ over) × (below < 2 ^ 21) × (16 * below ≤ over) × (0 < over) × (over < 2 ^ 29) ⌝ }
+    ensures { λ r. ⌜ r ≡ 2097153 * 2 ^ 28 + 2 ^ 53 * below / over - 2 ^ 53 * above / over ⌝ }
 {
-    HALVES * 268435456 - lower(part, over)
+    HALVES * (1 << 28) + lower(below, over) - lower(above, over)
 }
 
-// (2^20 + 1/2) * 2 * e * top, less 2^25 * f * top.
-fn toe_added(e: u64, f: u64, top: u64) -> u64
-    requires { ⌜ (2 ^ 22 ≤ e) × (e < 2 ^ 23) × (f < 2 ^ 17) × (top < 2 ^ 16) ⌝ }
-    ensures { λ r. ⌜ r ≡ e * top * 2097153 - 2 ^ 25 * (f * top) ⌝ }
+// (2^20 + 1/2) * 2 * e * last, less 2^25 * f * last, where f is above - below.
+fn toe_added(e: u64, above: u64, below: u64, last: u64) -> u64
+    requires { ⌜ (e * last < 2 ^ 41) × (above < 2 ^ 20) × (below < 2 ^ 20) × (last < 2 ^ 16) × (2 ^ 25 * (above * last) ≤ e * last * 2097153 + 2 ^ 25 * (below * last)) ⌝ }
+    ensures { λ r. ⌜ r ≡ e * last * 2097153 + 2 ^ 25 * (below * last) - 2 ^ 25 * (above * last) ⌝ }
 {
-    e * top * HALVES - 33554432 * (f * top)
+    e * last * HALVES + (1 << 25) * (below * last) - (1 << 25) * (above * last)
 }
 
-fn toe_divisor(e: u64, top: u64) -> u64
-    requires { ⌜ (e < 2 ^ 23) × (top < 2 ^ 16) ⌝ }
-    ensures { λ r. ⌜ r ≡ 2 * (e * top) ⌝ }
+fn toe_divisor(e: u64, last: u64) -> u64
+    requires { ⌜ e * last < 2 ^ 41 ⌝ }
+    ensures { λ r. ⌜ r ≡ 2 * (e * last) ⌝ }
 {
-    2 * (e * top)
+    2 * (e * last)
 }
 
 impl Decoder {
@@ -93,29 +101,31 @@ impl Decoder {
         over: 0,
     };
 
-    // Curve 3 at a top code.
-    fn log_c3(k: LogC3, top: u64) -> Decoder
-        requires { ⌜ k .a ≡ a ⌝ }
-        requires { ⌜ Small (constantsOf k) ⌝ }
-        requires { ⌜ top < 2 ^ 16 ⌝ }
-        ensures { λ r. ⌜ r ≡ decoderOf (record { curve = logC3 (constantsOf k); start = 0; span = top }) ⌝ }
+    // A curve with a toe, at a last step.
+    fn log_c(k: LogC3, last: u64) -> Decoder
+        requires { ⌜ Small (constantsOf k) last ⌝ }
+        ensures { λ r. ⌜ r ≡ decoderOf (record { curve = logC (constantsOf k); last = last }) ⌝ }
     {
+        let b_above = whole::above_zero(k.b);
+        let b_below = whole::below_zero(k.b);
+        let f_above = whole::above_zero(k.f);
+        let f_below = whole::below_zero(k.f);
         Decoder {
-            first: first_code(k.cut, k.e, k.f, top),
-            bias: bias(k.b, k.a),
-            toe: toe_added(k.e, k.f, top),
-            over: toe_divisor(k.e, top),
+            first: first_step(k.cut, k.e, f_above, f_below, last),
+            bias: bias(b_above, b_below, k.a),
+            toe: toe_added(k.e, f_above, f_below, last),
+            over: toe_divisor(k.e, last),
         }
     }
 
-    // Curve 4, which has no toe, and so one decoder at every top code.
+    // Curve 4, which has no toe, and so one decoder at every last step.
     fn log_c4(k: LogC4) -> Decoder
         requires { ⌜ IsLogC4 k ⌝ }
-        ensures { λ r. ⌜ r ≡ decoderOf (record { curve = logC4; start = 0; span = 0 }) ⌝ }
+        ensures { λ r. ⌜ r ≡ decoderOf (record { curve = logC4; last = 0 }) ⌝ }
     {
         Decoder {
             first: 0,
-            bias: bias(k.less * k.times, k.over),
+            bias: bias(k.less * k.times, 0, k.over),
             toe: 0,
             over: 0,
         }
@@ -126,32 +136,42 @@ impl Decoder {
         requires { ⌜ Valid s ⌝ }
         ensures { λ r. ⌜ r ≡ decoderOf (scaleOf s) ⌝ }
     {
-        match CurveName::of(s.curve) {
-            CurveName::LogC3 => Decoder::log_c3(LogC3::at(s.ei), setting::top_code(s) as u64),
+        match curves::name_of(s.curve) {
+            CurveName::LogC3 => Decoder::log_c(LogC3::at(s.ei), setting::last_step(s).0 as u64),
             CurveName::LogC4 => Decoder::log_c4(LogC4::new()),
             CurveName::Unknown => Decoder::NONE,
         }
     }
 
-    // The number of a code, with the offset.
-    pub fn raw(self, t: &[u64; 128], n: u64) -> u64
-        requires { ⌜ Fits self (now t) n ⌝ }
-        ensures { λ r. ⌜ r ≡ rawBy self (now (t .entry)) n ⌝ }
+    // The number of a step, with the offset.
+    pub fn raw(self, t: &[u64; 128], i: Step) -> u64
+        requires { ⌜ Fits self (now t) (i .0) ⌝ }
+        ensures { λ r. ⌜ r ≡ rawBy self (now (t .entry)) (i .0) ⌝ }
     {
+        let n = i.0 as u64;
         let toe = self.toe;
         let over = self.over;
         let bias = self.bias;
         if n < self.first {
             return (TOE_RISE * n + toe) / over;
         }
-        (scaled(t, n) + bias) / 536870912
+        (scaled(t, n) + bias) / UNIT
     }
 
-    // The scene number of a code.
-    pub fn scene(self, t: &[u64; 128], n: Code) -> Scene
-        requires { ⌜ Fits self (now t) (n .0) ⌝ }
-        ensures { λ r. ⌜ r .0 ≡ decodedBy self (now (t .entry)) (n .0) ⌝ }
+    // The scene number of a step.
+    fn number(self, t: &[u64; 128], i: Step) -> Scene
+        requires { ⌜ Fits self (now t) (i .0) ⌝ }
+        ensures { λ r. ⌜ r .0 ≡ decodedBy self (now (t .entry)) (i .0) ⌝ }
     {
-        Scene(self.raw(t, n.0 as u64) as i64 - OFFSET)
+        Scene(self.raw(t, i) as i64 - OFFSET)
     }
+}
+
+// The scene number of a code that passes its check.
+pub fn scene(s: Setting, d: Decoder, t: &[u64; 128], n: Code) -> Scene
+    requires { ⌜ Ready s d (now t) ⌝ }
+    requires { ⌜ codeCheck s (n .0) ≡ Passed ⌝ }
+    ensures { λ r. ⌜ r .0 ≡ decoded s (n .0) ⌝ }
+{
+    d.number(t, setting::step_of(s, n))
 }

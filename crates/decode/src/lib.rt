@@ -1,8 +1,7 @@
 // Decoding: the scene number of a code.
 ghost use mathlib.Core.Path.{_≡_};
 ghost use mathlib.Core.List.{[], _∷_};
-ghost use Rattle.rules.specs.Decoding.{Decodes};
-ghost use Rattle.rules.specs.Exact.{scaleOf};
+ghost use Rattle.rules.specs.Decoding.{DecodesCode};
 ghost use Rattle.rules.specs.Result.{Each, single};
 ghost use Rattle.rules.specs.Setting.{codeCheck, Valid};
 ghost use Rattle.decode.specs.Decoded.{decoded};
@@ -32,7 +31,7 @@ fn decode_valid(s: Setting, n: Code) -> Decoding
         Check::Passed => {
             let d = Decoder::new(s);
             let t = curve_table::table(s);
-            Decoding::Scene(d.scene(&t, n))
+            Decoding::Scene(decoder::scene(s, d, &t, n))
         }
     }
 }
@@ -41,7 +40,7 @@ fn decode_valid(s: Setting, n: Code) -> Decoding
 // sense.
 pub fn decode(s: Setting, n: Code) -> Decoding
     ensures { λ r. ⌜ decodingResult r ≡ decodeResult s (n .0) ⌝ }
-    ensures { λ r. ⌜ Each (Decodes (scaleOf s) (n .0)) (decodingResult r .values) ⌝ }
+    ensures { λ r. ⌜ Each (DecodesCode s (n .0)) (decodingResult r .values) ⌝ }
 {
     match setting::check_setting(s) {
         Check::Refused(r) => Decoding::Refused(r),

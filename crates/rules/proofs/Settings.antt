@@ -3,17 +3,19 @@
 use mathlib.Core.Bool.{Bool, true, false}
 use mathlib.Core.List.{List, [], _∷_}
 use mathlib.Core.Path.{_≡_, refl, sym, subst}
-use Prim.Native.Nat.{ℕ, _≤_}
-use borrow.Author.Tests.{le-leb}
-use lib.Dec.{T, eqb, eqb→eq, leb, leb→le}
+use Prim.Native.Nat.{ℕ}
+use borrow.Author.Tests.{eqb-true}
+use lib.Dec.{T, eqb, eqb→eq}
 use Rattle.rules.specs.declared.Setting.{Setting}
 use Rattle.rules.specs.declared.Check.{Check}
 use Rattle.rules.specs.declared.Check.the-variants.{Passed, Refused}
 use Rattle.rules.specs.declared.Refusal.{Refusal}
-use Rattle.rules.specs.declared.Refusal.the-variants.{UnknownCurve, UnknownWidth, UnknownEi, CodeAboveTop}
+use Rattle.rules.specs.declared.CurveName.{CurveName}
+use Rattle.rules.specs.declared.CurveName.the-variants.{LogC3, LogC4, Unknown}
+use Rattle.rules.specs.declared.Refusal.the-variants.{UnknownCurve, UnknownWidth, UnknownEi}
 use Rattle.rules.specs.Choice.{choose, member}
 use Rattle.rules.specs.Refusal.{then, refuseUnless}
-use Rattle.rules.specs.Setting.{curves, widthsOf, eisOf, topOf, settingCheck, codeCheck, Valid}
+use Rattle.rules.specs.Setting.{named, known, widthsOf, eisOf, settingCheck, Valid}
 
 -- ---- lists
 abbrev pub forAll : List ℕ → (ℕ → Bool) → Bool
@@ -59,40 +61,62 @@ both-passed : (x : Bool) (r : Refusal) (next : Check) → then (refuseUnless x r
 both-passed x r next e = let b = both (refuseUnless x r) next e in (passed-only x r (b .0), b .1)
 
 pub record Members (s : Setting) : Type 0 where
-  pub curve : T (member (s .curve) curves)
-  pub width : T (member (s .width) (widthsOf (s .curve)))
-  pub ei : T (member (s .ei) (eisOf (s .curve)))
+  pub curve : T (known (named (s .curve)))
+  pub width : T (member (s .width) (widthsOf (named (s .curve))))
+  pub ei : T (member (s .ei) (eisOf (named (s .curve))))
 
 pub members : (s : Setting) → Valid s → Members s
 unfolding settingCheck
-members s v = record { curve = a .0; width = c .0; ei = passed-only (member (s .ei) (eisOf (s .curve))) UnknownEi (c .1) }
+members s v = record { curve = a .0; width = c .0; ei = passed-only (member (s .ei) (eisOf (named (s .curve)))) UnknownEi (c .1) }
   where
     later : Check
-    later = refuseUnless (member (s .ei) (eisOf (s .curve))) UnknownEi
+    later = refuseUnless (member (s .ei) (eisOf (named (s .curve)))) UnknownEi
 
-    a : T (member (s .curve) curves) × (then (refuseUnless (member (s .width) (widthsOf (s .curve))) UnknownWidth) later ≡ Passed)
-    a = both-passed (member (s .curve) curves) UnknownCurve (then (refuseUnless (member (s .width) (widthsOf (s .curve))) UnknownWidth) later) v
+    a : T (known (named (s .curve))) × (then (refuseUnless (member (s .width) (widthsOf (named (s .curve)))) UnknownWidth) later ≡ Passed)
+    a = both-passed (known (named (s .curve))) UnknownCurve (then (refuseUnless (member (s .width) (widthsOf (named (s .curve)))) UnknownWidth) later) v
 
-    c : T (member (s .width) (widthsOf (s .curve))) × (later ≡ Passed)
-    c = both-passed (member (s .width) (widthsOf (s .curve))) UnknownWidth later (a .1)
+    c : T (member (s .width) (widthsOf (named (s .curve)))) × (later ≡ Passed)
+    c = both-passed (member (s .width) (widthsOf (named (s .curve)))) UnknownWidth later (a .1)
 
--- every setting there is passes the test
+-- ---- what the name of a curve says of its number
+abbrev pub HasName : ℕ → CurveName → Type 0
+HasName n LogC3 = n ≡ 3
+HasName n LogC4 = n ≡ 4
+HasName n Unknown = known (named n) ≡ false
+
+pub has-name : (n : ℕ) {c : CurveName} → named n ≡ c → HasName n c
+has-name n e = subst (HasName n) e (go (eqb n 3) (eqb n 4) refl refl)
+  where
+    go : (x y : Bool) → eqb n 3 ≡ x → eqb n 4 ≡ y → HasName n (choose x LogC3 (choose y LogC4 Unknown))
+    go true y p q = eqb-true n 3 p
+    go false true p q = eqb-true n 4 q
+    go false false p q = rw (p, q)
+
+-- a valid setting names a curve
+pub valid-named : {A : Type 0} (s : Setting) → Valid s → named (s .curve) ≡ Unknown → A
+valid-named s v e = absurd (subst T (has-name (s .curve) e) (members s v .curve))
+
+-- ---- every setting there is passes the test
+abbrev pub curves : List ℕ
+curves = 3 ∷ 4 ∷ []
+
+known-curve : (n : ℕ) → T (known (named n)) → T (member n curves)
+known-curve n h = go (eqb n 3) (eqb n 4) h
+  where
+    go : (x y : Bool) → T (known (choose x LogC3 (choose y LogC4 Unknown))) → T (choose x true (choose y true false))
+    go true y h = tt
+    go false true h = tt
+    go false false h = h
+
 abbrev pub forSettings : (ℕ → ℕ → ℕ → Bool) → Bool
-forSettings p = forAll curves (λ c. forAll (widthsOf c) (λ w. forAll (eisOf c) (λ e. p c w e)))
+forSettings p = forAll curves (λ c. forAll (widthsOf (named c)) (λ w. forAll (eisOf (named c)) (λ e. p c w e)))
 
 pub for-valid : (p : ℕ → ℕ → ℕ → Bool) → T (forSettings p) → (s : Setting) → Valid s → T (p (s .curve) (s .width) (s .ei))
 for-valid p h s v =
-    for-one (eisOf (s .curve)) (λ e. p (s .curve) (s .width) e)
-    (for-one (widthsOf (s .curve)) (λ w. forAll (eisOf (s .curve)) (λ e. p (s .curve) w e))
-    (for-one curves (λ c. forAll (widthsOf c) (λ w. forAll (eisOf c) (λ e. p c w e))) h (s .curve) (members s v .curve))
+    for-one (eisOf (named (s .curve))) (λ e. p (s .curve) (s .width) e)
+    (for-one (widthsOf (named (s .curve))) (λ w. forAll (eisOf (named (s .curve))) (λ e. p (s .curve) w e))
+    (for-one curves (λ c. forAll (widthsOf (named c)) (λ w. forAll (eisOf (named c)) (λ e. p c w e))) h (s .curve) (known-curve (s .curve) (members s v .curve)))
     (s .width)
     (members s v .width))
     (s .ei)
     (members s v .ei)
-
--- a code that passes is at most the top code
-pub code-passed : (s : Setting) (n : ℕ) → codeCheck s n ≡ Passed → n ≤ topOf (s .width)
-code-passed s n e = leb→le n (topOf (s .width)) (passed-only (leb n (topOf (s .width))) CodeAboveTop e)
-
-pub code-passes : (s : Setting) (n : ℕ) → n ≤ topOf (s .width) → codeCheck s n ≡ Passed
-code-passes s n h = rw (le-leb n (topOf (s .width)) h)

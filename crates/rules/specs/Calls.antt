@@ -2,6 +2,7 @@
 -- or the refusal of the first check that fails. The numbers of the codes are a parameter.
 -- Assumes nothing.
 use mathlib.Core.List.{List, [], _∷_}
+use mathlib.Core.Path.{_≡_}
 use Prim.Native.Nat.{ℕ}
 use lib.Ieee.{Float}
 use lib.IntN.{ℤ}
@@ -11,9 +12,9 @@ use Rattle.rules.specs.declared.Pixel.{Pixel}
 use Rattle.rules.specs.declared.Triple.{Triple}
 use Rattle.rules.specs.Refusal.{then}
 use Rattle.rules.specs.Result.{Result, single}
-use Rattle.rules.specs.Setting.{topOf, settingCheck, codeCheck}
+use Rattle.rules.specs.Setting.{lastOf, codeAt, settingCheck, codeCheck}
 use Rattle.rules.specs.Exact.{scaleOf}
-use Rattle.rules.specs.Encoding.{IsNearest, TwoThirds, codeBy, sceneCheck}
+use Rattle.rules.specs.Encoding.{IsNearest, TwoThirds, numberAt, codeBy, sceneCheck}
 use Rattle.rules.specs.Float.{floatOf, floatCheck, unitsOf, IsFloat}
 use Rattle.rules.specs.Pixels.{codesCheck}
 use Rattle.rules.specs.WayBack.{pixelBy, codesFound, foundCheck}
@@ -34,8 +35,10 @@ module _ (number : Setting → ℕ → ℤ) (s : Setting) where
   -- what 01 asks of the code of a scene number: it is the nearest, and where it is not clipped within two thirds of a code of the exact
   -- curve
   pub record EncodesBy (x : ℤ) (n : ℕ) : Type 0 where
-    pub nearest : IsNearest (number s) (topOf (s .width)) x n
-    pub two-thirds : TwoThirds (scaleOf s) (topOf (s .width)) x n
+    pub step : ℕ
+    pub code : n ≡ codeAt s step
+    pub nearest : IsNearest (numberAt number s) (lastOf s) x step
+    pub two-thirds : TwoThirds (scaleOf s) x step
 
   -- the way back over one record: 3, 4, 5, then 10
   abbrev pub wayBackBy : Triple → Result ℕ

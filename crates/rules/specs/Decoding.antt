@@ -6,7 +6,9 @@ use Prim.Native.Nat.{ℕ, _^_}
 use lib.IntN.{ℤ}
 use Rattle.rules.specs.Fraction.{Fraction, ratio, whole, integer, _+ℚ_, _-ℚ_, _*ℚ_, nearest, Less, Greater}
 use Rattle.rules.specs.Curve.{inToe, toeValue}
-use Rattle.rules.specs.Exact.{Scale, signal, VersusExact}
+use Rattle.rules.specs.declared.Setting.{Setting}
+use Rattle.rules.specs.Setting.{stepOf}
+use Rattle.rules.specs.Exact.{Scale, signal, scaleOf, VersusExact}
 
 -- "One unit is 2^-24"
 abbrev pub unit : Fraction
@@ -16,19 +18,23 @@ unit = ratio 1 (2 ^ 24)
 abbrev pub tolerance : Fraction
 tolerance = ratio 1 1
 
--- y is a decoded number of the code n, which is in the toe or not; in the power part it is less than e away
-pub data DecodesPart (e : Fraction) (k : Scale) (n : ℕ) (y : ℤ) : Bool → Type 0 where
+-- y is a decoded number of the step i, which is in the toe or not; in the power part it is less than e away
+pub data DecodesPart (e : Fraction) (k : Scale) (i : ℕ) (y : ℤ) : Bool → Type 0 where
   -- "In the toe the scene number is the exact value times 2^24, to the nearest whole number, a half going up"
-  toe : y ≡ nearest (toeValue (k .curve) (signal k (whole n)) *ℚ whole (2 ^ 24)) → DecodesPart e k n y true
+  toe : y ≡ nearest (toeValue (k .curve) (signal k (whole i)) *ℚ whole (2 ^ 24)) → DecodesPart e k i y true
   -- "In the power part it is a whole number less than .. away from the exact value times 2^24": y - e is below that, and y + e above it
   power :
-      VersusExact Less k (whole n) ((integer y -ℚ e) *ℚ unit)
-      → VersusExact Greater k (whole n) ((integer y +ℚ e) *ℚ unit)
-      → DecodesPart e k n y false
+      VersusExact Less k (whole i) ((integer y -ℚ e) *ℚ unit)
+      → VersusExact Greater k (whole i) ((integer y +ℚ e) *ℚ unit)
+      → DecodesPart e k i y false
 
 abbrev pub DecodesWithin : Fraction → Scale → ℕ → ℤ → Type 0
-DecodesWithin e k n y = DecodesPart e k n y (inToe (k .curve) (signal k (whole n)))
+DecodesWithin e k i y = DecodesPart e k i y (inToe (k .curve) (signal k (whole i)))
 
--- what 01 asks of a decoded number
+-- what 01 asks of a decoded number of a step
 abbrev pub Decodes : Scale → ℕ → ℤ → Type 0
 Decodes = DecodesWithin tolerance
+
+-- "A setting and code have one decoded number": what is asked of the number of a code
+abbrev pub DecodesCode : Setting → (code : ℕ) → ℤ → Type 0
+DecodesCode s n = Decodes (scaleOf s) (stepOf s n)

@@ -10,35 +10,42 @@ use Rattle.rules.specs.declared.Refusal.the-variants.{SceneOutOfRange}
 use Rattle.rules.specs.Choice.{choose}
 use Rattle.rules.specs.Fraction.{ratio, integer, _*ℚ_, AtMost, AtLeast}
 use Rattle.rules.specs.declared.Setting.{Setting}
-use Rattle.rules.specs.Setting.{topOf}
+use Rattle.rules.specs.Setting.{lastOf, codeAt}
 use Rattle.rules.specs.Exact.{Scale, VersusExact}
 use Rattle.rules.specs.Decoding.{unit}
 use Rattle.rules.specs.Refusal.{refuseUnless}
 
--- how far x is from the number of a code
-abbrev pub distance : (number : ℕ → ℤ) (x : ℤ) (n : ℕ) → ℕ
-distance number x n = natAbs (x -ℤ number n)
+-- how far x is from the number of a step
+abbrev pub distance : (number : ℕ → ℤ) (x : ℤ) (i : ℕ) → ℕ
+distance number x i = natAbs (x -ℤ number i)
 
--- "the code whose decoded number is nearest; of two equally near, the lower. Below code 0 that is 0, above the top code it is the top."
-pub record IsNearest (number : ℕ → ℤ) (top : ℕ) (x : ℤ) (n : ℕ) : Type 0 where
-  pub in-range : n ≤ top
-  pub nearest : (m : ℕ) → m ≤ top → distance number x n ≤ distance number x m
-  pub lowest : (m : ℕ) → m < n → distance number x n < distance number x m
+-- "the code whose decoded number is nearest; of two equally near, the lower. Below code 0 that is 0, above the top code it is the top.": its
+-- step, from 0 to last
+pub record IsNearest (number : ℕ → ℤ) (last : ℕ) (x : ℤ) (i : ℕ) : Type 0 where
+  pub in-range : i ≤ last
+  pub nearest : (j : ℕ) → j ≤ last → distance number x i ≤ distance number x j
+  pub lowest : (j : ℕ) → j < i → distance number x i < distance number x j
 
--- the same as an equation: of the codes 0 to top the first at the least distance
-unfoldable pub closest : (number : ℕ → ℤ) (x : ℤ) (top : ℕ) → ℕ
+-- the same as an equation: of the steps 0 to last the first at the least distance
+unfoldable pub closest : (number : ℕ → ℤ) (x : ℤ) (last : ℕ) → ℕ
 closest number x zero = 0
 closest number x (suc k) = choose (ltb (distance number x (suc k)) (distance number x (closest number x k))) (suc k) (closest number x k)
 
--- of a setting, where its codes have these numbers
+-- of a setting, where its codes have these numbers: the step, and its code
+abbrev pub numberAt : (number : Setting → ℕ → ℤ) → Setting → (step : ℕ) → ℤ
+numberAt number s i = number s (codeAt s i)
+
+abbrev pub stepBy : (number : Setting → ℕ → ℤ) → Setting → ℤ → ℕ
+stepBy number s x = closest (numberAt number s) x (lastOf s)
+
 abbrev pub codeBy : (number : Setting → ℕ → ℤ) → Setting → ℤ → ℕ
-codeBy number s x = closest (number s) x (topOf (s .width))
+codeBy number s x = codeAt s (stepBy number s x)
 
 -- "For answer n below top, the scene number is at most 2^24 times the exact curve at n + 2/3; for n above 0 it is at least 2^24 times
--- the exact curve at n - 2/3 (n read as a fraction there)."
-pub record TwoThirds (k : Scale) (top : ℕ) (x : ℤ) (n : ℕ) : Type 0 where
-  pub above : n < top → VersusExact AtMost k (ratio (3 * n + 2) 3) (integer x *ℚ unit)
-  pub below : 0 < n → VersusExact AtLeast k (ratio (3 * n - 2) 3) (integer x *ℚ unit)
+-- the exact curve at n - 2/3 (n read as a fraction there).": of the answer's step
+pub record TwoThirds (k : Scale) (x : ℤ) (i : ℕ) : Type 0 where
+  pub above : i < k .last → VersusExact AtMost k (ratio (3 * i + 2) 3) (integer x *ℚ unit)
+  pub below : 0 < i → VersusExact AtLeast k (ratio (3 * i - 2) 3) (integer x *ℚ unit)
 
 -- refusal 7: "scene number to encode outside -2^40 to 2^40"
 unfoldable pub sceneCheck : ℤ → Check

@@ -27,6 +27,10 @@ integer z = record { plus = up z; minus = dn z; over = 1 }
 abbrev pub millionths : ℕ → Fraction
 millionths n = ratio n 1_000_000
 
+-- the same with a sign
+abbrev pub signedMillionths : ℤ → Fraction
+signedMillionths z = record { plus = up z; minus = dn z; over = 1_000_000 }
+
 infixl 6 _+ℚ_ _-ℚ_
 infixl 7 _*ℚ_ _/ℚ_
 abbrev pub _+ℚ_ : Fraction → Fraction → Fraction

@@ -3,11 +3,12 @@
 use mathlib.Core.List.{List, [], _∷_}
 use mathlib.Core.Path.{_≡_}
 use Prim.Native.Nat.{ℕ, _^_}
-use lib.Dec.{eqb}
 use lib.IntN.{ℤ, pos, negℤ, _+ℤ_, _*ℤ_}
 use lib.ListN.{getD}
 use Rattle.rules.specs.declared.Setting.{Setting}
-use Rattle.rules.specs.Choice.{choose}
+use Rattle.rules.specs.declared.CurveName.{CurveName}
+use Rattle.rules.specs.declared.CurveName.the-variants.{LogC3, LogC4, Unknown}
+use Rattle.rules.specs.Setting.{named}
 use Rattle.rules.specs.Fraction.{integer, whole, _/ℚ_, nearest}
 
 -- "Each matrix is three rows of three whole numbers over a scale."
@@ -42,9 +43,18 @@ logC3Matrix =
       scale = 10 ^ 6;
     }
 
--- the matrix of a valid setting
+-- of a setting that is not valid
+abbrev pub noMatrix : Matrix
+noMatrix = record { rows = []; scale = 1 }
+
+abbrev pub matrixFor : CurveName → Matrix
+matrixFor LogC3 = logC3Matrix
+matrixFor LogC4 = logC4Matrix
+matrixFor Unknown = noMatrix
+
+-- the matrix of a setting
 abbrev pub matrixOf : Setting → Matrix
-matrixOf s = choose (eqb (s .curve) 3) logC3Matrix logC4Matrix
+matrixOf s = matrixFor (named (s .curve))
 
 abbrev pub entry : Matrix → (i j : ℕ) → ℤ
 entry m i j = getD (getD (m .rows) i []) j (pos 0)

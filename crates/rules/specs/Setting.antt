@@ -1,48 +1,89 @@
 -- 01, "Records and settings": the settings there are, their checks, and their codes.
 -- Assumes nothing.
+use mathlib.Core.Bool.{Bool, true, false}
 use mathlib.Core.List.{List, [], _∷_, map}
 use mathlib.Core.Path.{_≡_}
-use Prim.Native.Nat.{ℕ, _-_, _^_}
+use Prim.Native.Nat.{ℕ, _+_, _-_, _*_, _/_, _^_}
 use lib.Dec.{eqb, leb}
 use Rattle.rules.specs.declared.Setting.{Setting}
+use Rattle.rules.specs.declared.CurveName.{CurveName}
+use Rattle.rules.specs.declared.CurveName.the-variants.{LogC3, LogC4, Unknown}
 use Rattle.rules.specs.declared.Check.{Check}
 use Rattle.rules.specs.declared.Check.the-variants.{Passed}
 use Rattle.rules.specs.declared.Refusal.the-variants.{UnknownCurve, UnknownWidth, UnknownEi, CodeAboveTop}
 use Rattle.rules.specs.Choice.{choose, member}
 use Rattle.rules.specs.Refusal.{then, refuseUnless}
-use Rattle.rules.specs.Curve.{Curve, logC4, logC3, Row, rows, constantsAt}
+use Rattle.rules.specs.Curve.{Curve, logC4, logC, Row, logC3Rows, noConstants, constantsAt}
+
+-- ---- the curve that a number names, and what there is for each. Everything else goes by its cases.
 
 -- "Curve is 3 or 4."
-abbrev pub curves : List ℕ
-curves = 3 ∷ 4 ∷ []
+abbrev pub named : ℕ → CurveName
+named n = choose (eqb n 3) LogC3 (choose (eqb n 4) LogC4 Unknown)
+
+abbrev pub known : CurveName → Bool
+known LogC3 = true
+known LogC4 = true
+known Unknown = false
 
 -- "Curve 3 has widths 10, 12, 16 .. Curve 4 has widths 12 and 16"
-abbrev pub widthsOf : ℕ → List ℕ
-widthsOf curve = choose (eqb curve 3) (10 ∷ 12 ∷ 16 ∷ []) (12 ∷ 16 ∷ [])
+abbrev pub widthsOf : CurveName → List ℕ
+widthsOf LogC3 = 10 ∷ 12 ∷ 16 ∷ []
+widthsOf LogC4 = 12 ∷ 16 ∷ []
+widthsOf Unknown = []
 
 -- ".. and EI 160, 200, .." (those of the table of constants), ".. and EI 0"
-abbrev pub eisOf : ℕ → List ℕ
-eisOf curve = choose (eqb curve 3) (map (λ (r : Row). r .ei) rows) (0 ∷ [])
+abbrev pub eisOf : CurveName → List ℕ
+eisOf LogC3 = map (λ (r : Row). r .ei) logC3Rows
+eisOf LogC4 = 0 ∷ []
+eisOf Unknown = []
 
--- "The top code of width w is top = 2^w - 1"
-abbrev pub topOf : ℕ → ℕ
-topOf width = 2 ^ width - 1
+-- the curve at an EI. (No valid setting is of an unknown one.)
+abbrev pub curveAt : CurveName → (ei : ℕ) → Curve
+curveAt LogC3 ei = logC (constantsAt ei logC3Rows)
+curveAt LogC4 ei = logC4
+curveAt Unknown ei = logC noConstants
 
--- refusals 3, 4 and 5, in this order
+abbrev pub curveOf : Setting → Curve
+curveOf s = curveAt (named (s .curve)) (s .ei)
+
+-- ---- the setting's checks: refusals 3, 4 and 5, in this order
 unfoldable pub settingCheck : Setting → Check
 settingCheck s =
-    then (refuseUnless (member (s .curve) curves) UnknownCurve)
-    (then (refuseUnless (member (s .width) (widthsOf (s .curve))) UnknownWidth)
-    (refuseUnless (member (s .ei) (eisOf (s .curve))) UnknownEi))
-
--- refusal 6, of a setting that passes its checks
-abbrev pub codeCheck : Setting → ℕ → Check
-codeCheck s n = refuseUnless (leb n (topOf (s .width))) CodeAboveTop
+    then (refuseUnless (known (named (s .curve))) UnknownCurve)
+    (then (refuseUnless (member (s .width) (widthsOf (named (s .curve)))) UnknownWidth)
+    (refuseUnless (member (s .ei) (eisOf (named (s .curve)))) UnknownEi))
 
 -- "A setting is valid where it passes the table's setting checks."
 abbrev pub Valid : Setting → Type 0
 Valid s = settingCheck s ≡ Passed
 
--- the curve of a valid setting
-abbrev pub curveOf : Setting → Curve
-curveOf s = choose (eqb (s .curve) 3) (logC3 (constantsAt (s .ei) rows)) logC4
+-- ---- the codes of a setting. They are numbered by steps from 0: all that is said of a curve is said of steps.
+
+-- "The top code of width w is top = 2^w - 1"
+abbrev pub topOf : ℕ → ℕ
+topOf width = 2 ^ width - 1
+
+-- the first code, how far each code is from the one before it, and the last step
+pub record Codes : Type 0 where
+  pub first : ℕ
+  pub apart : ℕ
+  pub last : ℕ
+
+-- every whole number from 0 to the top code
+unfoldable pub codesOf : Setting → Codes
+codesOf s = record { first = 0; apart = 1; last = topOf (s .width) }
+
+abbrev pub lastOf : Setting → ℕ
+lastOf s = codesOf s .last
+
+-- the code of a step, and the step of a code
+abbrev pub codeAt : Setting → (step : ℕ) → ℕ
+codeAt s i = codesOf s .first + i * codesOf s .apart
+
+abbrev pub stepOf : Setting → (code : ℕ) → ℕ
+stepOf s n = (n - codesOf s .first) / codesOf s .apart
+
+-- refusal 6, of a setting that passes its checks: "code above top"
+abbrev pub codeCheck : Setting → ℕ → Check
+codeCheck s n = refuseUnless (leb n (codeAt s (lastOf s))) CodeAboveTop

@@ -7,8 +7,18 @@ pub struct Setting {
     pub ei: u16,
 }
 
+// The curve that a setting names.
+pub enum CurveName {
+    LogC3,
+    LogC4,
+    Unknown,
+}
+
 // A code as the camera wrote it.
 pub struct Code(pub u16);
+
+// A step: the place of a code among the codes of its setting, from 0.
+pub struct Step(pub u16);
 
 // A scene number, in units of 2^-24.
 pub struct Scene(pub i64);

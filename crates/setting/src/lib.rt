@@ -1,18 +1,21 @@
-// The checks of a setting and of a code, and the numbers of the refusals.
+// The checks of a setting and of a code, the steps of codes, and the numbers of the refusals.
 ghost use mathlib.Core.Path.{_≡_};
 ghost use Rattle.rules.specs.Refusal.{numberOf, then, refuseUnless};
 ghost use Rattle.rules.specs.declared.Refusal.the-variants.{UnknownWidth, UnknownEi};
 ghost use Rattle.rules.specs.Pixels.{codesCheck};
-ghost use Rattle.rules.specs.Setting.{topOf, settingCheck, codeCheck, Valid};
+ghost use Prim.Native.Nat.{_≤_};
+ghost use Rattle.rules.specs.declared.Check.the-variants.{Passed};
+ghost use Rattle.rules.specs.Setting.{lastOf, codeAt, stepOf, settingCheck, codeCheck, Valid};
 ghost use Rattle.setting.specs.Same.{sameSetting};
-use curves::CurveName;
 use curves::log_c3::LogC3;
 use curves::log_c4::LogC4;
 use rules::Check;
 use rules::Code;
+use rules::CurveName;
 use rules::Pixel;
 use rules::Refusal;
 use rules::Setting;
+use rules::Step;
 
 // The number of a refusal.
 pub fn refusal_number(r: Refusal) -> u8
@@ -49,24 +52,41 @@ fn check_limits(width: bool, ei: bool) -> Check
 pub fn check_setting(s: Setting) -> Check
     ensures { λ r. ⌜ r ≡ settingCheck s ⌝ }
 {
-    match CurveName::of(s.curve) {
+    match curves::name_of(s.curve) {
         CurveName::LogC3 => check_limits(LogC3::has_width(s.width), LogC3::has_ei(s.ei)),
         CurveName::LogC4 => check_limits(LogC4::has_width(s.width), LogC4::has_ei(s.ei)),
         CurveName::Unknown => Check::Refused(Refusal::UnknownCurve),
     }
 }
 
-// The top code of a setting's width.
-pub fn top_code(s: Setting) -> u16
+// The last step of a setting.
+pub fn last_step(s: Setting) -> Step
     requires { ⌜ Valid s ⌝ }
-    ensures { λ r. ⌜ r ≡ topOf (s .width) ⌝ }
+    ensures { λ r. ⌜ r .0 ≡ lastOf s ⌝ }
 {
     let width = s.width;
     match width {
-        10 => 1023,
-        12 => 4095,
-        _ => 65535,
+        10 => Step(1023),
+        12 => Step(4095),
+        _ => Step(65535),
     }
+}
+
+// The code of a step.
+pub fn code_at(s: Setting, i: Step) -> Code
+    requires { ⌜ Valid s ⌝ }
+    requires { ⌜ i .0 ≤ lastOf s ⌝ }
+    ensures { λ r. ⌜ r .0 ≡ codeAt s (i .0) ⌝ }
+{
+    Code(i.0)
+}
+
+// The step of a code that passes its check.
+pub fn step_of(s: Setting, n: Code) -> Step
+    requires { ⌜ codeCheck s (n .0) ≡ Passed ⌝ }
+    ensures { λ r. ⌜ r .0 ≡ stepOf s (n .0) ⌝ }
+{
+    Step(n.0)
 }
 
 // Refusal 6.
@@ -74,7 +94,8 @@ pub fn check_code(s: Setting, n: Code) -> Check
     requires { ⌜ Valid s ⌝ }
     ensures { λ r. ⌜ r ≡ codeCheck s (n .0) ⌝ }
 {
-    if n.0 <= top_code(s) {
+    let top = code_at(s, last_step(s));
+    if n.0 <= top.0 {
         Check::Passed
     } else {
         Check::Refused(Refusal::CodeAboveTop)

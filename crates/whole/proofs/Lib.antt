@@ -7,3 +7,4 @@ pub mod Sizes
 pub mod Words
 pub mod Near
 pub mod Tests
+mod Signs

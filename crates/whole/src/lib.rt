@@ -1,10 +1,10 @@
-// Whole numbers: the upper half of a product of two words, a number without its sign, and a quotient rounded down. (proofs/ has the laws of ℤ that the other
-// crates cite.)
+// Whole numbers: the upper half of a product of two words, a number without its sign, its part above
+// or below 0, and a quotient rounded down. (proofs/ has the laws of ℤ that the other crates cite.)
 ghost use mathlib.Core.Path.{_≡_};
 ghost use Prim.Native.Nat.{_*_, _/_, _^_, _≤_};
 ghost use lib.IntN.{pos, natAbs};
 ghost use lib.Signed.{_<ℤ_, shrZ};
-ghost use Rattle.whole.specs.Parts.{up};
+ghost use Rattle.whole.specs.Parts.{up, dn};
 
 // The upper 64 bits of a * b, by the digits of a and b in base 2^32, column by column.
 pub fn high_product(a: u64, b: u64) -> u64
@@ -25,6 +25,19 @@ pub fn magnitude(z: i64) -> u64
     ensures { λ r. ⌜ r ≡ natAbs z ⌝ }
 {
     if z < 0 { (-1 - z) as u64 + 1 } else { z as u64 }
+}
+
+// How far a number is above 0, and how far below it.
+pub fn above_zero(z: i64) -> u64
+    ensures { λ r. ⌜ r ≡ up z ⌝ }
+{
+    if z < 0 { 0 } else { magnitude(z) }
+}
+
+pub fn below_zero(z: i64) -> u64
+    ensures { λ r. ⌜ r ≡ dn z ⌝ }
+{
+    if z < 0 { magnitude(z) } else { 0 }
 }
 
 // x over m, rounded down.

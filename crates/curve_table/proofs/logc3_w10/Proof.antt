@@ -1,7 +1,7 @@
--- `logc3_w10` meets its contract: each arm's table is computed; the last arm is for the last row.
+-- `logc3_w10` meets its contract: each arm's table is computed; past the last row there is none.
 -- Assumes nothing.
 use Rattle.curve_table.specs.Table.{logC3Table}
-use Rattle.curve_table.proofs.Last.{last-row}
+use Rattle.curve_table.proofs.Last.{no-row}
 use Rattle.curve_table.proofs.logc3_w10.Statement.{statement}
 use Rattle.curve_table.proofs.logc3_w10.Tie as tie
 
@@ -20,4 +20,5 @@ logc3-w10-spec =
     (λ c. rw (c .match .keys8))
     (λ c. rw (c .match .keys9))
     (λ c. rw (c .match .keys10))
-    (λ c. rw (last-row 10 (c .before .args .row) (c .match .rest))))
+    (λ c. rw (c .match .keys11))
+    (λ c. no-row 10 _ (c .match .rest)))

@@ -5,8 +5,7 @@ use borrow.Author.Needs.{needs}
 use Prim.Native.Nat.{ℕ}
 use lib.IntN.{ℤ}
 use Rattle.rules.specs.declared.Setting.{Setting}
-use Rattle.rules.specs.Decoding.{Decodes}
-use Rattle.rules.specs.Exact.{scaleOf}
+use Rattle.rules.specs.Decoding.{DecodesCode}
 use Rattle.rules.specs.Result.{Result, Each}
 use Rattle.decode.specs.declared.Decoding.{Decoding}
 use Rattle.decode.specs.Answer.{decodingResult, decodeResult}
@@ -21,8 +20,8 @@ returns : tie.Need-returns
 unfolding decodeResult
 returns c = (rw (sym (c .before .before .before .check-setting .ensures) ∙ c .before .r .given .1), tt)
 
-right : (s : Setting) (n : ℕ) (r : Decoding) → decodingResult r ≡ decodeResult s n → (decodingResult r ≡ decodeResult s n) × Each (Decodes (scaleOf s) n) (decodingResult r .values)
-right s n r e = (e, subst (λ (x : Result ℤ). Each (Decodes (scaleOf s) n) (x .values)) (sym e) (result-decodes s n))
+right : (s : Setting) (n : ℕ) (r : Decoding) → decodingResult r ≡ decodeResult s n → (decodingResult r ≡ decodeResult s n) × Each (DecodesCode s n) (decodingResult r .values)
+right s n r e = (e, subst (λ (x : Result ℤ). Each (DecodesCode s n) (x .values)) (sym e) (result-decodes s n))
 
 returns-2 : tie.Need-returns-2
 unfolding decodeResult

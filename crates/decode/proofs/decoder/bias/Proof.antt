@@ -1,4 +1,4 @@
--- `bias` meets its contract: what is taken off is less.
+-- `bias` meets its contract: what is added fits, and what is taken off is less.
 -- Assumes nothing.
 use native.Mathlib.Omega.{arith}
 use borrow.Author.Needs.{needs}
@@ -6,8 +6,16 @@ use Rattle.decode.proofs.Quotient.{quotient-small}
 use Rattle.decode.proofs.decoder.bias.Statement.{statement}
 use Rattle.decode.proofs.decoder.bias.Tie as tie
 
+add-result : tie.Need-add-result
+add-result c =
+    let a = c .before in
+    record { fits = omega (arith, c .lower .ensures, quotient-small (a .args .below) (a .args .over) (a .pre .4) (a .pre .3)) }
+
 sub-result : tie.Need-sub-result
-sub-result c = omega (arith, c .lower .ensures, quotient-small (c .before .args .part) (c .before .args .over) (c .before .pre .2) (c .before .pre .1))
+sub-result c =
+    let a = c .before .before in
+    omega (arith, c .lower2 .ensures, quotient-small (a .args .above) (a .args .over) (a .pre .4) (a .pre .1))
 
 pub bias-spec : {M : Type 1} → statement M
-bias-spec = tie.close (tie.spec (λ c. search needs) (λ c κs. search needs) sub-result (λ c. search needs))
+bias-spec =
+    tie.close (tie.spec (λ c. search needs) (λ c κs. search needs) add-result (λ c κs. search needs) sub-result (λ c. search needs))

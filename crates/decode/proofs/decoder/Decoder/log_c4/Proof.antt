@@ -1,6 +1,5 @@
 -- `Decoder::log_c4` meets its contract: its numbers are those of the formula.
 -- Assumes nothing.
-use native.Mathlib.Omega.{arith}
 use borrow.Author.Needs.{needs}
 use Rattle.decode.proofs.Program.{numbers-are, decoder-is-4}
 use Rattle.decode.proofs.decoder.Decoder.log_c4.Statement.{statement}

@@ -1,0 +1,10 @@
+-- How far apart the decoded numbers of two codes of a curve are at least, in units.
+-- Assumes nothing.
+use Prim.Native.Nat.{ℕ}
+use Rattle.rules.specs.declared.CurveName.{CurveName}
+use Rattle.rules.specs.declared.CurveName.the-variants.{LogC3, LogC4, Unknown}
+
+abbrev pub gapOf : CurveName → ℕ
+gapOf LogC3 = 28
+gapOf LogC4 = 28
+gapOf Unknown = 0

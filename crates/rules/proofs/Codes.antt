@@ -1,0 +1,51 @@
+-- The codes of a setting and their steps: a code that passes is the code of its step, and a step's code passes. Only here is it seen which
+-- codes a setting has.
+-- Assumes nothing.
+use mathlib.Core.Path.{_≡_}
+use Prim.Native.Nat.{ℕ, _+_, _-_, _*_, _/_, _^_, _≤_, _<_}
+use native.Mathlib.Nat.{lt-of-le-of-lt}
+use native.Mathlib.Omega.{arith}
+use borrow.Author.Tests.{le-leb}
+use lib.Dec.{T, leb, ltb, leb→le, ltb→lt}
+use Rattle.rules.specs.declared.Setting.{Setting}
+use Rattle.rules.specs.declared.Check.the-variants.{Passed}
+use Rattle.rules.specs.declared.Refusal.the-variants.{CodeAboveTop}
+use Rattle.rules.specs.Setting.{codesOf, lastOf, codeAt, stepOf, codeCheck, Valid}
+use Rattle.rules.proofs.Settings.{passed-only, forSettings, for-valid}
+
+passed-below : (s : Setting) (n : ℕ) → codeCheck s n ≡ Passed → n ≤ codeAt s (lastOf s)
+passed-below s n e = leb→le n (codeAt s (lastOf s)) (passed-only (leb n (codeAt s (lastOf s))) CodeAboveTop e)
+
+pub step-of-code : (s : Setting) (i : ℕ) → stepOf s (codeAt s i) ≡ i
+unfolding codesOf
+step-of-code s i = omega arith
+
+pub code-of-step : (s : Setting) (n : ℕ) → codeCheck s n ≡ Passed → codeAt s (stepOf s n) ≡ n
+unfolding codesOf
+code-of-step s n e = omega arith
+
+pub code-passed : (s : Setting) (n : ℕ) → codeCheck s n ≡ Passed → stepOf s n ≤ lastOf s
+unfolding codesOf
+code-passed s n e = omega (arith, passed-below s n e)
+
+pub code-passes : (s : Setting) (i : ℕ) → i ≤ lastOf s → codeCheck s (codeAt s i) ≡ Passed
+unfolding codesOf
+code-passes s i h = rw (le-leb (codeAt s i) (codeAt s (lastOf s)) (omega arith))
+
+-- a later code has a later step
+pub step-rises : (s : Setting) (m n : ℕ) → codeCheck s m ≡ Passed → codeCheck s n ≡ Passed → m < n → stepOf s m < stepOf s n
+unfolding codesOf
+step-rises s m n p q h = omega arith
+
+-- ---- of a valid setting: a code fits two bytes, and so does a step
+top-small : (s : Setting) → Valid s → codeAt s (lastOf s) < 2 ^ 16
+unfolding codesOf
+top-small s v =
+    ltb→lt (codeAt s (lastOf s)) (2 ^ 16) (for-valid (λ c w e. ltb (codeAt (record { curve = c; width = w; ei = e }) (lastOf (record { curve = c; width = w; ei = e }))) (2 ^ 16)) tt s v)
+
+pub code-small : (s : Setting) → Valid s → (i : ℕ) → i ≤ lastOf s → codeAt s i < 2 ^ 16
+code-small s v i h = lt-of-le-of-lt (passed-below s (codeAt s i) (code-passes s i h)) (top-small s v)
+
+pub last-small : (s : Setting) → Valid s → lastOf s < 2 ^ 16
+unfolding codesOf
+last-small s v = omega (arith, top-small s v)
