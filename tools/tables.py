@@ -167,7 +167,7 @@ def lines():
         "use curves::log_c4::LogC4;\n"
         "use rules::Setting;\n"
         "\n"
-        "// Above the toe a code's number, less the decoder's bias, is a number z over 2^29, and the signal is slope * log2(z) - start. The slope is\n"
+        "// Above the toe a step's number, less the decoder's bias, is a number z over 2^29, and the signal is slope * log2(z) - start. The slope is\n"
         "// in units of 2^-32, the start in units of 2^-48.\n"
         "pub struct Line {\n    pub slope: u64,\n    pub start: u64,\n}\n"
         "\n"

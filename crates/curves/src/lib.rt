@@ -1,5 +1,6 @@
 // The curves: which there are, and the one choice by a curve's number. The limits of each are constants of its type.
 ghost use mathlib.Core.Path.{_≡_};
+ghost use Prim.Native.Nat.{_^_, _<_};
 ghost use Rattle.rules.specs.Setting.{named};
 ghost use Rattle.curves.specs.Gap.{gapOf};
 
@@ -24,7 +25,7 @@ pub fn name_of(curve: u8) -> CurveName
 
 // How far apart the decoded numbers of two codes of a curve are at least, in units.
 pub fn gap_of(curve: CurveName) -> u64
-    ensures { λ r. ⌜ r ≡ gapOf curve ⌝ }
+    ensures { λ r. ⌜ (r ≡ gapOf curve) × (r < 2 ^ 16) ⌝ }
 {
     match curve {
         CurveName::LogC3 => LogC3::GAP,

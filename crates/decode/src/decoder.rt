@@ -137,7 +137,7 @@ impl Decoder {
         ensures { λ r. ⌜ r ≡ decoderOf (scaleOf s) ⌝ }
     {
         match curves::name_of(s.curve) {
-            CurveName::LogC3 => Decoder::log_c(LogC3::at(s.ei), setting::last_step(s).0 as u64),
+            CurveName::LogC3 => Decoder::log_c(LogC3::at(s.ei), setting::last_step(s).0),
             CurveName::LogC4 => Decoder::log_c4(LogC4::new()),
             CurveName::Unknown => Decoder::NONE,
         }
@@ -148,7 +148,7 @@ impl Decoder {
         requires { ⌜ Fits self (now t) (i .0) ⌝ }
         ensures { λ r. ⌜ r ≡ rawBy self (now (t .entry)) (i .0) ⌝ }
     {
-        let n = i.0 as u64;
+        let n = i.0;
         let toe = self.toe;
         let over = self.over;
         let bias = self.bias;

@@ -1,4 +1,4 @@
--- What is computed at every code: its product, with the bias, is not near a whole unit. One recursion, over the entries of each digit.
+-- What is computed at every step: its product, with the bias, is not near a whole unit. One recursion, over the entries of each digit.
 -- Assumes nothing.
 use mathlib.Core.Bool.{Bool, true}
 use mathlib.Core.List.{List, [], _∷_}
@@ -6,13 +6,13 @@ use mathlib.Core.Path.{_≡_, _∙_, subst}
 use Prim.Native.Nat.{ℕ, zero, suc, _+_, _-_, _*_, _/_, _%_, _^_, max, _≤_, _<_}
 use native.Mathlib.Nat.{not-suc-le-zero, le-of-suc-le-suc, le-trans, le-max-left, le-max-right}
 use native.Mathlib.Omega.{arith}
-use lib.Dec.{T, leb, leb→le, eqb→eq, lit<}
+use lib.Dec.{T, leb, leb→le, lit<}
 use lib.ListN.{length, getD, take, drop}
 use lib.Seq.{getD-take, getD-drop}
-use Rattle.whole.proofs.Tests.{both, both-left, both-right, nth, passes, every}
+use Rattle.whole.proofs.Tests.{both, both-left, both-right, every}
 use Rattle.rules.specs.Exact.{Scale}
 use Rattle.decode.specs.Decoded.{product}
-use Rattle.decode.proofs.Tests.{Source, tests, first, bias, roomTests, top-count, middle-count, low-count}
+use Rattle.decode.proofs.Tests.{Source, Tested, first, bias, count, roomTests}
 use Rattle.decode.proofs.Near.{Room, room-by}
 
 -- ---- lists
@@ -39,22 +39,22 @@ largest-at f (x ∷ xs) (suc j) g = le-trans (largest-at f xs j (le-of-suc-le-su
 
 -- ---- the tests of a scale and its table
 
--- with the entries of a code's digits, the highest first: the product of the upper two is made once for the codes that share them
+-- with the entries of a step's digits, the highest first: the product of the upper two is made once for the steps that share them
 abbrev remainders : (i w z : ℕ) (tops middles lows : List ℕ) → Bool
 remainders i w z tops middles lows = all (λ t. all (λ m. leb (largest (λ l. (t * m / 2 ^ 64 * l + i) % w) lows) z) middles) tops
 
--- with the bias, no product is a multiple of 2 ^ 29, nor less than 6 below one. The numbers stand at 2 ^ 93 a unit, so that a code takes one
+-- with the bias, no product is a multiple of 2 ^ 29, nor less than 6 below one. The numbers stand at 2 ^ 93 a unit, so that a step takes one
 -- product, one sum and one remainder.
-abbrev clear : (k : Scale) (top : ℕ) (t : List ℕ) → Bool
-clear k top t =
-    remainders ((bias k + (2 ^ 29 - 1)) * 2 ^ 64) (2 ^ 93) ((2 ^ 29 - 7) * 2 ^ 64) (take (top / 1024 + 1) t) (take 32 (drop 64 t)) (take 32 (drop 96 t))
+abbrev clear : (k : Scale) (t : List ℕ) → Bool
+clear k t =
+    remainders ((bias k + (2 ^ 29 - 1)) * 2 ^ 64) (2 ^ 93) ((2 ^ 29 - 7) * 2 ^ 64) (take (count k) t) (take 32 (drop 64 t)) (take 32 (drop 96 t))
 
 -- and the bias itself is rounded by less than 1
 abbrev biasTests : Scale → List Bool
 biasTests k = roomTests k 1 2 (bias k - 1) (bias k + 5)
 
-abbrev pub marginTest : (k : Scale) (top : ℕ) (t : List ℕ) → Bool
-marginTest k top t = both (every (biasTests k)) (clear k top t)
+abbrev pub marginTest : (k : Scale) (t : List ℕ) → Bool
+marginTest k t = both (every (biasTests k)) (clear k t)
 
 -- ---- what the remainder says of the number that is rounded down
 coarse : (x i : ℕ) → (x + (i + (2 ^ 29 - 1)) * 2 ^ 64) % 2 ^ 93 ≤ (2 ^ 29 - 7) * 2 ^ 64 → (x / 2 ^ 64 + i + (2 ^ 29 - 1)) % 2 ^ 29 ≤ 2 ^ 29 - 7
@@ -66,9 +66,9 @@ from-below v i h = omega arith
 from-above : (v i : ℕ) → (v + i + (2 ^ 29 - 1)) % 2 ^ 29 ≤ 2 ^ 29 - 7 → v + (i + 5) < (v + i) / 2 ^ 29 * 2 ^ 29 + 2 ^ 29
 from-above v i h = omega arith
 
-module _ (k : Scale) (top : ℕ) (t : List ℕ) (s : Source) (ok : T (every (tests k top t s))) (margin : T (marginTest k top t)) (n : ℕ) (from : first k ≤ n) (to : n ≤ top) where
+module _ {k : Scale} {g : ℕ} {t : List ℕ} {s : Source} (ok : Tested k g t s) (margin : T (marginTest k t)) (n : ℕ) (from : first k ≤ n) (to : n ≤ k .last) where
   abbrev tops : List ℕ
-  tops = take (top / 1024 + 1) t
+  tops = take (count k) t
 
   abbrev middles : List ℕ
   middles = take 32 (drop 64 t)
@@ -82,23 +82,23 @@ module _ (k : Scale) (top : ℕ) (t : List ℕ) (s : Source) (ok : T (every (tes
   abbrev z : ℕ
   z = (2 ^ 29 - 7) * 2 ^ 64
 
-  quotient : n / 1024 < top / 1024 + 1
-  quotient = omega arith
+  quotient : n / 1024 < count k
+  quotient = less (k .last) to
+    where
+      less : (m : ℕ) → n ≤ m → n / 1024 < m / 1024 + 1
+      less m h = omega arith
 
   below-32 : (m : ℕ) → m % 32 < 32
   below-32 m = omega arith
 
   tops-long : n / 1024 < length tops
-  unfolding nth
-  tops-long = rw (eqb→eq (length tops) (top / 1024 + 1) (passes (tests k top t s) ok top-count)) quotient
+  tops-long = rw (ok .top-count) quotient
 
   middles-long : n / 32 % 32 < length middles
-  unfolding nth
-  middles-long = rw (eqb→eq (length middles) 32 (passes (tests k top t s) ok middle-count)) (below-32 (n / 32))
+  middles-long = rw (ok .middle-count) (below-32 (n / 32))
 
   lows-long : n % 32 < length lows
-  unfolding nth
-  lows-long = rw (eqb→eq (length lows) 32 (passes (tests k top t s) ok low-count)) (below-32 n)
+  lows-long = rw (ok .low-count) (below-32 n)
 
   -- the product of the entries of the upper two digits
   abbrev h : ℕ
@@ -107,7 +107,7 @@ module _ (k : Scale) (top : ℕ) (t : List ℕ) (s : Source) (ok : T (every (tes
   at-upper : T (leb (largest (λ l. (h * l + i) % 2 ^ 93) lows) z)
   at-upper =
       all-at (λ m. leb (largest (λ l. (getD tops (n / 1024) 0 * m / 2 ^ 64 * l + i) % 2 ^ 93) lows) z) middles
-      (all-at (λ x. all (λ m. leb (largest (λ l. (x * m / 2 ^ 64 * l + i) % 2 ^ 93) lows) z) middles) tops (both-right (every (biasTests k)) (clear k top t) margin) (n / 1024) tops-long)
+      (all-at (λ x. all (λ m. leb (largest (λ l. (x * m / 2 ^ 64 * l + i) % 2 ^ 93) lows) z) middles) tops (both-right (every (biasTests k)) (clear k t) margin) (n / 1024) tops-long)
       (n / 32 % 32)
       middles-long
 
@@ -115,7 +115,7 @@ module _ (k : Scale) (top : ℕ) (t : List ℕ) (s : Source) (ok : T (every (tes
   at-digits = le-trans (largest-at (λ l. (h * l + i) % 2 ^ 93) lows (n % 32) lows-long) (leb→le (largest (λ l. (h * l + i) % 2 ^ 93) lows) z at-upper)
 
   top-entry : getD tops (n / 1024) 0 ≡ getD t (n / 1024) 0
-  top-entry = getD-take (top / 1024 + 1) t (n / 1024) 0 quotient
+  top-entry = getD-take (count k) t (n / 1024) 0 quotient
 
   middle-entry : getD middles (n / 32 % 32) 0 ≡ getD t (64 + n / 32 % 32) 0
   middle-entry = getD-take 32 (drop 64 t) (n / 32 % 32) 0 (below-32 (n / 32)) ∙ getD-drop 64 t (n / 32 % 32) 0
@@ -123,16 +123,16 @@ module _ (k : Scale) (top : ℕ) (t : List ℕ) (s : Source) (ok : T (every (tes
   low-entry : getD lows (n % 32) 0 ≡ getD t (96 + n % 32) 0
   low-entry = getD-take 32 (drop 96 t) (n % 32) 0 (below-32 n) ∙ getD-drop 96 t (n % 32) 0
 
-  at-code : (product t n + bias k + (2 ^ 29 - 1)) % 2 ^ 29 ≤ 2 ^ 29 - 7
-  at-code =
+  at-step : (product t n + bias k + (2 ^ 29 - 1)) % 2 ^ 29 ≤ 2 ^ 29 - 7
+  at-step =
       coarse (getD t (n / 1024) 0 * getD t (64 + n / 32 % 32) 0 / 2 ^ 64 * getD t (96 + n % 32) 0) (bias k)
       (subst (λ (l : ℕ). (getD t (n / 1024) 0 * getD t (64 + n / 32 % 32) 0 / 2 ^ 64 * l + i) % 2 ^ 93 ≤ z) low-entry
       (subst (λ (m : ℕ). (getD t (n / 1024) 0 * m / 2 ^ 64 * getD lows (n % 32) 0 + i) % 2 ^ 93 ≤ z) middle-entry
       (subst (λ (x : ℕ). (x * getD middles (n / 32 % 32) 0 / 2 ^ 64 * getD lows (n % 32) 0 + i) % 2 ^ 93 ≤ z) top-entry at-digits)))
 
   biased : T (every (biasTests k))
-  biased = both-left (every (biasTests k)) (clear k top t) margin
+  biased = both-left (every (biasTests k)) (clear k t) margin
 
   -- ROOM FOR A HALF: the number less 1/2 is below the exact value, and with it above
   pub room-for-half : Room k t n 1 2
-  room-for-half = room-by k top t s ok n from to 1 2 (lit< tt) (bias k - 1) (bias k + 5) (from-below (product t n) (bias k) at-code) (from-above (product t n) (bias k) at-code) biased
+  room-for-half = room-by ok n from to 1 2 (lit< tt) (bias k - 1) (bias k + 5) (from-below (product t n) (bias k) at-step) (from-above (product t n) (bias k) at-step) biased

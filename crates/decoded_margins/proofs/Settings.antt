@@ -1,4 +1,4 @@
--- The margins of every code of every valid setting, computed. Several declarations, since what antt keeps while it computes one is free for
+-- The margins of every step of every valid setting, computed. Several declarations, since what antt keeps while it computes one is free for
 -- the next: all in one took 1.5 GB.
 -- Assumes nothing.
 use mathlib.Core.Bool.{Bool, true, false}
@@ -8,11 +8,11 @@ use lib.Dec.{T}
 use lib.ListN.{take, drop}
 use Rattle.rules.specs.Choice.{choose}
 use Rattle.rules.specs.declared.Setting.{Setting}
-use Rattle.rules.specs.Setting.{curves, widthsOf, eisOf, topOf, Valid}
+use Rattle.rules.specs.declared.CurveName.the-variants.{LogC3, LogC4}
+use Rattle.rules.specs.Setting.{named, widthsOf, eisOf, codesOf, Valid}
 use Rattle.rules.specs.Exact.{scaleOf}
-use Rattle.curves.specs.Named.{named}
 use Rattle.curves.specs.LogC3.{rowOf}
-use Rattle.rules.proofs.Settings.{forAll, forSettings, for-valid, first, others}
+use Rattle.rules.proofs.Settings.{curves, forAll, forSettings, for-valid, first, others}
 use Rattle.curve_table.specs.Table.{logC3Table, logC4Table, tableOf}
 use Rattle.decoded_margins.proofs.Margins.{marginTest}
 
@@ -38,49 +38,49 @@ parts (suc k) (n ∷ ns) p h g = join (p n) (forAll ns p) (first (p n) (forAll (
 
 -- ---- of a setting. It is no abbreviation, so that what is computed once is not computed again where the parts are joined.
 test : (curve width ei : ℕ) → Bool
-test c w e = marginTest (scaleOf (record { curve = c; width = w; ei = e })) (topOf w) (tableOf (record { curve = c; width = w; ei = e }))
+test c w e = marginTest (scaleOf (record { curve = c; width = w; ei = e })) (tableOf (record { curve = c; width = w; ei = e }))
 
 -- ---- computed
-c3-w10 : T (forAll (eisOf 3) (λ e. test 3 10 e))
-unfolding test tableOf logC3Table logC4Table named rowOf
+c3-w10 : T (forAll (eisOf LogC3) (λ e. test 3 10 e))
+unfolding test tableOf logC3Table logC4Table rowOf codesOf
 c3-w10 = tt
 
-c3-w12 : T (forAll (eisOf 3) (λ e. test 3 12 e))
-unfolding test tableOf logC3Table logC4Table named rowOf
+c3-w12 : T (forAll (eisOf LogC3) (λ e. test 3 12 e))
+unfolding test tableOf logC3Table logC4Table rowOf codesOf
 c3-w12 = tt
 
 -- the first three EI values, the next three, ..
-c3-w16-first : T (forAll (take 3 (eisOf 3)) (λ e. test 3 16 e))
-unfolding test tableOf logC3Table logC4Table named rowOf
+c3-w16-first : T (forAll (take 3 (eisOf LogC3)) (λ e. test 3 16 e))
+unfolding test tableOf logC3Table logC4Table rowOf codesOf
 c3-w16-first = tt
 
-c3-w16-second : T (forAll (take 3 (drop 3 (eisOf 3))) (λ e. test 3 16 e))
-unfolding test tableOf logC3Table logC4Table named rowOf
+c3-w16-second : T (forAll (take 3 (drop 3 (eisOf LogC3))) (λ e. test 3 16 e))
+unfolding test tableOf logC3Table logC4Table rowOf codesOf
 c3-w16-second = tt
 
-c3-w16-third : T (forAll (take 3 (drop 6 (eisOf 3))) (λ e. test 3 16 e))
-unfolding test tableOf logC3Table logC4Table named rowOf
+c3-w16-third : T (forAll (take 3 (drop 6 (eisOf LogC3))) (λ e. test 3 16 e))
+unfolding test tableOf logC3Table logC4Table rowOf codesOf
 c3-w16-third = tt
 
-c3-w16-last : T (forAll (drop 9 (eisOf 3)) (λ e. test 3 16 e))
-unfolding test tableOf logC3Table logC4Table named rowOf
+c3-w16-last : T (forAll (drop 9 (eisOf LogC3)) (λ e. test 3 16 e))
+unfolding test tableOf logC3Table logC4Table rowOf codesOf
 c3-w16-last = tt
 
-c4 : T (forAll (widthsOf 4) (λ w. forAll (eisOf 4) (λ e. test 4 w e)))
-unfolding test tableOf logC3Table logC4Table named rowOf
+c4 : T (forAll (widthsOf LogC4) (λ w. forAll (eisOf LogC4) (λ e. test 4 w e)))
+unfolding test tableOf logC3Table logC4Table rowOf codesOf
 c4 = tt
 
 -- ---- all of them
-c3-w16 : T (forAll (eisOf 3) (λ e. test 3 16 e))
+c3-w16 : T (forAll (eisOf LogC3) (λ e. test 3 16 e))
 c3-w16 =
-    parts 3 (eisOf 3) (λ e. test 3 16 e) c3-w16-first
-    (parts 3 (drop 3 (eisOf 3)) (λ e. test 3 16 e) c3-w16-second (parts 3 (drop 6 (eisOf 3)) (λ e. test 3 16 e) c3-w16-third c3-w16-last))
+    parts 3 (eisOf LogC3) (λ e. test 3 16 e) c3-w16-first
+    (parts 3 (drop 3 (eisOf LogC3)) (λ e. test 3 16 e) c3-w16-second (parts 3 (drop 6 (eisOf LogC3)) (λ e. test 3 16 e) c3-w16-third c3-w16-last))
 
 all-clear : T (forSettings test)
 all-clear =
-    each curves (λ c. forAll (widthsOf c) (λ w. forAll (eisOf c) (λ e. test c w e)))
-    (each (widthsOf 3) (λ w. forAll (eisOf 3) (λ e. test 3 w e)) (c3-w10, (c3-w12, (c3-w16, tt))), (c4, tt))
+    each curves (λ c. forAll (widthsOf (named c)) (λ w. forAll (eisOf (named c)) (λ e. test c w e)))
+    (each (widthsOf LogC3) (λ w. forAll (eisOf LogC3) (λ e. test 3 w e)) (c3-w10, (c3-w12, (c3-w16, tt))), (c4, tt))
 
-pub margins : (s : Setting) → Valid s → T (marginTest (scaleOf s) (topOf (s .width)) (tableOf s))
+pub margins : (s : Setting) → Valid s → T (marginTest (scaleOf s) (tableOf s))
 unfolding test
 margins s v = for-valid test all-clear s v

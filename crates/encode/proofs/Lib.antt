@@ -1,4 +1,4 @@
-mod HalfWays
+mod Midpoints
 mod Codes
 mod Shifted
 mod Sums

@@ -6,7 +6,7 @@ ghost use Rattle.rules.specs.Result.{Each, single};
 ghost use Rattle.rules.specs.Setting.{Valid};
 ghost use Rattle.rules.specs.Encoding.{sceneCheck};
 ghost use Rattle.decode.specs.Ready.{Ready};
-ghost use Rattle.encode.specs.Encoded.{encoded};
+ghost use Rattle.encode.specs.Encoded.{encoded, encodedStep};
 ghost use Rattle.encode.specs.Answer.{encodingResult, encodeResult, Encodes};
 use decode::decoder::Decoder;
 use rules::Check;
@@ -14,12 +14,13 @@ use rules::Code;
 use rules::Refusal;
 use rules::Scene;
 use rules::Setting;
+use rules::Step;
 
-// 2^40: the scene numbers to encode go from minus this to this.
-const LIMIT: i64 = 1099511627776;
+// The scene numbers to encode go from minus this to this.
+const LIMIT: i64 = 1 << 40;
 
-// A number with its offset, 2^20, is not below 0 if it is a code's.
-const OFFSET: i64 = 1048576;
+// A number with its offset, 2^20, is not below 0 if it is a step's.
+const OFFSET: i64 = 1 << 20;
 
 // What encoding one scene number answers.
 pub enum Encoding {
@@ -39,18 +40,27 @@ pub fn check_scene(x: Scene) -> Check
     }
 }
 
+// The step of a scene number.
+fn nearest_step(s: Setting, d: Decoder, t: &[u64; 128], x: Scene) -> Step
+    requires { ⌜ Ready s d (now t) ⌝ }
+    requires { ⌜ sceneCheck (x .0) ≡ Passed ⌝ }
+    ensures { λ r. ⌜ r .0 ≡ encodedStep s (x .0) ⌝ }
+{
+    let number = x.0;
+    if number < -OFFSET {
+        return Step(0);
+    }
+    let last = setting::last_step(s);
+    nearest_code::find(s, d, t, last, (number + OFFSET) as u64)
+}
+
 // The code of a scene number.
 pub fn code_of(s: Setting, d: Decoder, t: &[u64; 128], x: Scene) -> Code
     requires { ⌜ Ready s d (now t) ⌝ }
     requires { ⌜ sceneCheck (x .0) ≡ Passed ⌝ }
     ensures { λ r. ⌜ r .0 ≡ encoded s (x .0) ⌝ }
 {
-    let number = x.0;
-    if number < -OFFSET {
-        return Code(0);
-    }
-    let top = Code(setting::top_code(s));
-    nearest_code::find(s, d, t, top, (number + OFFSET) as u64)
+    setting::code_at(s, nearest_step(s, d, t, x))
 }
 
 fn encode_valid(s: Setting, x: Scene) -> Encoding

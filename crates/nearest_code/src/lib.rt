@@ -1,6 +1,8 @@
-// The search for the code whose number is nearest to a number y, which has the offset: from a guess outwards, then by halves.
+// The search for the step whose number is nearest to a number y, which has the offset: from a guess outwards, then by halves.
 ghost use mathlib.Core.Path.{_≡_};
 ghost use Prim.Native.Nat.{_^_, _<_, min};
+ghost use Rattle.rules.specs.Setting.{named};
+ghost use Rattle.curves.specs.Gap.{gapOf};
 ghost use Rattle.decode.specs.Decoded.{rawBy};
 ghost use Rattle.nearest_code.specs.Search.{Rising, Found};
 
@@ -8,8 +10,8 @@ mod guess;
 mod lines;
 
 use decode::decoder::Decoder;
-use rules::Code;
 use rules::Setting;
+use rules::Step;
 
 fn least(a: u64, b: u64) -> u64
     ensures { λ r. ⌜ r ≡ min a b ⌝ }
@@ -17,23 +19,23 @@ fn least(a: u64, b: u64) -> u64
     if a < b { a } else { b }
 }
 
-// The code whose number is nearest to y. Between the codes low and high, whose numbers are low_number and high_number, any code may be
-// tried next: here one a step from the end that moved last, where steps grow fourfold, or else the one half way.
-fn search(d: Decoder, t: &[u64; 128], top: u64, y: u64, first: u64) -> u64
-    requires { ⌜ Rising d (now t) top ⌝ }
+// The step whose number is nearest to y. Between the steps low and high, whose numbers are low_number and high_number, any step may be
+// tried next: here one a stride from the end that moved last, where strides grow fourfold, or else the one half way.
+fn search(d: Decoder, t: &[u64; 128], last: u64, gap: u64, y: u64, first: u64) -> u64
+    requires { ⌜ Rising d (now t) last gap ⌝ }
     requires { ⌜ y < 2 ^ 62 ⌝ }
-    ensures { λ r. ⌜ Found (rawBy d (now (t .entry))) top y r ⌝ }
+    ensures { λ r. ⌜ Found (rawBy d (now (t .entry))) last y r ⌝ }
 {
     let mut low: u64 = 0;
-    let mut high = top + 1;
+    let mut high = last + 1;
     let mut low_number: u64 = 0;
     let mut high_number: u64 = 0;
-    let mut step: u64 = 1;
-    let mut middle = least(first % 65536 + 1, top);
+    let mut stride: u64 = 1;
+    let mut middle = least(first % 65536 + 1, last);
     while low + 1 < high {
-        let reach = step;
-        step = least(4 * step, 65536);
-        let number = d.raw(t, middle);
+        let reach = stride;
+        stride = least(4 * stride, 65536);
+        let number = d.raw(t, Step(middle));
         if number < y {
             low = middle;
             low_number = number;
@@ -44,11 +46,11 @@ fn search(d: Decoder, t: &[u64; 128], top: u64, y: u64, first: u64) -> u64
             middle = high - least(reach, (high - low) / 2);
         }
     }
-    if top < high {
+    if last < high {
         return low;
     }
     if low == 0 {
-        low_number = d.raw(t, 0);
+        low_number = d.raw(t, Step(0));
     }
     if low_number + high_number < 2 * y {
         return high;
@@ -56,18 +58,17 @@ fn search(d: Decoder, t: &[u64; 128], top: u64, y: u64, first: u64) -> u64
     low
 }
 
-// The same, where the code guessed is tried first: numbers of codes are 28 apart or more, so what is at most 13 from the number of a code has
-// that code.
-pub fn find(s: Setting, d: Decoder, t: &[u64; 128], top: Code, y: u64) -> Code
-    requires { ⌜ Rising d (now t) (top .0) ⌝ }
+// The same, where the step guessed is tried first: what is nearer to its number than half the curve's gap has that step.
+pub fn find(s: Setting, d: Decoder, t: &[u64; 128], last: Step, y: u64) -> Step
+    requires { ⌜ Rising d (now t) (last .0) (gapOf (named (s .curve))) ⌝ }
     requires { ⌜ y < 2 ^ 62 ⌝ }
-    ensures { λ r. ⌜ Found (rawBy d (now (t .entry))) (top .0) y (r .0) ⌝ }
+    ensures { λ r. ⌜ Found (rawBy d (now (t .entry))) (last .0) y (r .0) ⌝ }
 {
-    let last = top.0 as u64;
-    let first = guess::guess(s, d, last, y);
-    let number = d.raw(t, first);
-    if number <= y + 13 && y <= number + 13 {
-        return Code(first as u16);
+    let gap = curves::gap_of(curves::name_of(s.curve));
+    let first = guess::guess(s, d, last.0, y);
+    let number = d.raw(t, Step(first));
+    if 2 * number < 2 * y + gap && 2 * y < 2 * number + gap {
+        return Step(first);
     }
-    Code(search(d, t, last, y, first) as u16)
+    Step(search(d, t, last.0, gap, y, first))
 }

@@ -4,7 +4,7 @@ use curves::log_c3::LogC3;
 use curves::log_c4::LogC4;
 use rules::Setting;
 
-// Above the toe a code's number, less the decoder's bias, is a number z over 2^29, and the signal is slope * log2(z) - start. The slope is
+// Above the toe a step's number, less the decoder's bias, is a number z over 2^29, and the signal is slope * log2(z) - start. The slope is
 // in units of 2^-32, the start in units of 2^-48.
 pub struct Line {
     pub slope: u64,

@@ -18,7 +18,7 @@ pub enum CurveName {
 pub struct Code(pub u16);
 
 // A step: the place of a code among the codes of its setting, from 0.
-pub struct Step(pub u16);
+pub struct Step(pub u64);
 
 // A scene number, in units of 2^-24.
 pub struct Scene(pub i64);

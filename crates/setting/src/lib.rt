@@ -78,7 +78,7 @@ pub fn code_at(s: Setting, i: Step) -> Code
     requires { ⌜ i .0 ≤ lastOf s ⌝ }
     ensures { λ r. ⌜ r .0 ≡ codeAt s (i .0) ⌝ }
 {
-    Code(i.0)
+    Code(i.0 as u16)
 }
 
 // The step of a code that passes its check.
@@ -86,7 +86,7 @@ pub fn step_of(s: Setting, n: Code) -> Step
     requires { ⌜ codeCheck s (n .0) ≡ Passed ⌝ }
     ensures { λ r. ⌜ r .0 ≡ stepOf s (n .0) ⌝ }
 {
-    Step(n.0)
+    Step(n.0 as u64)
 }
 
 // Refusal 6.

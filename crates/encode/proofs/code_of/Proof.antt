@@ -1,67 +1,20 @@
--- `code_of` meets its contract: what is below every number has code 0, and the search finds the others.
+-- `code_of` meets its contract: the code of the nearest step.
 -- Assumes nothing.
-use Prim.Native.Nat.{_+_, _^_, _≤_}
-use native.Mathlib.Omega.{arith}
+use mathlib.Core.Path.{sym, ap, _∙_, subst}
+use Prim.Native.Nat.{ℕ, _≤_}
 use borrow.Author.Needs.{needs}
-use mir.Syntax.{w64}
-use mir.Val.{SFits}
-use Rattle.whole.specs.Parts.{up, dn}
-use Rattle.whole.proofs.Words.{read-back}
-use Rattle.rules.specs.Setting.{topOf}
-use Rattle.decode.specs.Decoded.{offset, raw}
-use Rattle.decode.proofs.Theorems.{raw-rises}
-use Rattle.encode.proofs.HalfWays.{found-within, first-within}
-use Rattle.encode.proofs.Codes.{scene-passed, rising, code-is}
-use Rattle.encode.proofs.Shifted as shifted
+use Rattle.rules.specs.Setting.{lastOf, codeAt}
+use Rattle.encode.proofs.Theorems.{encoded-nearest}
 use Rattle.encode.proofs.code_of.Statement.{statement}
 use Rattle.encode.proofs.code_of.Tie as tie
 
--- the number fits a word
-fits : (c : tie.After-struct-told) → SFits w64 (c .before .args .x .0)
-fits c = record { sfits = c .struct-told .given .0 .1 }
-
-below : (c : tie.Then1) → up (c .before .before .args .x .0) + offset ≤ dn (c .before .before .args .x .0)
-below c = shifted.under (c .before .before .args .x .0) (rw (read-back (fits (c .before))) at (c .if1 .taken))
-
-above : (c : tie.Else1) → dn (c .before .before .args .x .0) ≤ up (c .before .before .args .x .0) + offset
-above c = shifted.not-under (c .before .before .args .x .0) (rw (read-back (fits (c .before))) at (c .if1 .left))
-
-high : (c : tie.Else1) → up (c .before .before .args .x .0) ≤ 2 ^ 40
-high c = scene-passed (c .before .before .args .x .0) (c .before .before .pre .1) .0
+code-at-requires : tie.Need-code-at-requires
+code-at-requires c κs =
+    let a = c .before in
+    (a .pre .0 .valid, subst (λ (i : ℕ). i ≤ lastOf (a .args .s)) (sym (c .nearest-step .ensures)) (encoded-nearest (a .args .s) (a .args .x .0) .in-range))
 
 returns : tie.Need-returns
-returns c =
-    code-is (c .before .before .args .s) (c .before .before .pre .0 .valid) (c .before .before .args .x .0) 0
-    (first-within (raw (c .before .before .args .s)) (topOf (c .before .before .args .s .width)) (raw-rises (c .before .before .args .s) (c .before .before .pre .0 .valid))
-    (c .before .before .args .x .0) (omega (arith, below c)))
-
-add-find : tie.Need-add-find
-add-find c = shifted.add-fits (c .before .before .before .args .x .0) (fits (c .before .before)) (above (c .before)) (high (c .before))
-
-cast-find : tie.Need-cast-find
-cast-find c = shifted.cast-fits (c .before .before .before .args .x .0) (fits (c .before .before)) (above (c .before)) (high (c .before))
-
-find-requires : tie.Need-find-requires
-find-requires c κs = (
-  rw (c .before .before .before .pre .0 .decoder, c .before .before .before .pre .0 .table, c .top-code .ensures) (rising (c .before .before .before .args .s) (c .before .before .before .pre .0 .valid)),
-  shifted.small (c .before .before .before .args .x .0) (fits (c .before .before)) (above (c .before)) (high (c .before)),
-)
-
-returns-2 : tie.Need-returns-2
-returns-2 c =
-    code-is (c .before .before .before .before .args .s) (c .before .before .before .before .pre .0 .valid) (c .before .before .before .before .args .x .0) (c .find .result .0)
-    (found-within _ _ (c .before .before .before .before .args .x .0) _ (c .find .result .0)
-    (shifted.shifted (c .before .before .before .before .args .x .0) (fits (c .before .before .before)) (above (c .before .before)) (high (c .before .before)))
-    (rw (c .before .before .before .before .pre .0 .decoder, c .before .before .before .before .pre .0 .table, c .before .top-code .ensures) at (c .find .ensures)))
+returns c = c .code-at .ensures ∙ ap (codeAt (c .before .before .args .s)) (c .before .nearest-step .ensures)
 
 pub code-of-spec : {M : Type 1} → statement M
-code-of-spec =
-    tie.close
-    (tie.spec
-    (λ c. search needs)
-    returns
-    (λ c κs. search needs)
-    add-find
-    cast-find
-    find-requires
-    returns-2)
+code-of-spec = tie.close (tie.spec (λ c κs. search needs) code-at-requires returns)

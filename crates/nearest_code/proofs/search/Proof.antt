@@ -7,20 +7,20 @@ use native.Mathlib.Omega.{arith}
 use borrow.Author.Needs.{needs}
 use Rattle.decode.specs.Decoded.{rawBy}
 use Rattle.decode.proofs.Program.{raw-small}
-use Rattle.nearest_code.proofs.Interval.{Between, Next, begin, raise, lower, end-top, end-low, end-high, first-try, next-up, next-down}
+use Rattle.nearest_code.proofs.Interval.{Between, Next, begin, raise, lower, end-last, end-low, end-high, first-try, next-up, next-down}
 use Rattle.nearest_code.proofs.search.Statement.{statement}
 use Rattle.nearest_code.proofs.search.Tie as tie
 
 abbrev Inv-loop : tie.InvT-loop
-Inv-loop d t top y first low₀ high₀ low-number₀ high-number₀ step₀ middle₀ low high low-number high-number step middle =
-    Between (rawBy d t) top y low high low-number high-number × Next low high middle step
+Inv-loop d t last gap y first low₀ high₀ low-number₀ high-number₀ stride₀ middle₀ low high low-number high-number stride middle =
+    Between (rawBy d t) last y low high low-number high-number × Next low high middle stride
 
 abbrev μ-loop : tie.MeasureT-loop
-μ-loop d t top y first low₀ high₀ low-number₀ high-number₀ step₀ middle₀ low high low-number high-number step middle = high - low
+μ-loop d t last gap y first low₀ high₀ low-number₀ high-number₀ stride₀ middle₀ low high low-number high-number stride middle = high - low
 
 loop-holds : tie.Need-loop-holds Inv-loop μ-loop
 loop-holds c =
-    (begin _ (c .before .args .top) (c .before .args .y) (c .before .pre .0 .small), first-try (c .before .args .top) (c .before .args .first) (c .least .result) (c .least .ensures))
+    (begin _ (c .before .args .last) (c .before .args .y) (c .before .pre .0 .small), first-try (c .before .args .last) (c .before .args .first) (c .least .result) (c .least .ensures))
 
 -- the code that is tried is strictly between the ends
 inside : (c : tie.In-loop Inv-loop μ-loop) → (c .before .loop .low < c .before .loop .middle) × (c .before .loop .middle < c .before .loop .high)
@@ -35,7 +35,7 @@ loop-less c = omega (arith, inside (c .before .before .before .before))
 loop-again : tie.Need-loop-again Inv-loop μ-loop
 loop-again c = (
   raise (c .before .before .before .before .before .loop .inv .0) (c .before .before .before .before .before .loop .middle) (c .before .before .raw .result) (inside (c .before .before .before .before) .1) (c .before .before .raw .ensures) (c .before .if1 .taken),
-  next-up (c .before .before .before .before .before .loop .middle) (c .before .before .before .before .before .loop .high) (c .before .before .before .before .before .loop .step) (c .before .before .before .least2 .result) (c .before .before .before .before .before .loop .inv .1 .step-positive) (c .before .before .before .least2 .ensures) (c .least3 .result) (c .least3 .ensures),
+  next-up (c .before .before .before .before .before .loop .middle) (c .before .before .before .before .before .loop .high) (c .before .before .before .before .before .loop .stride) (c .before .before .before .least2 .result) (c .before .before .before .before .before .loop .inv .1 .stride-positive) (c .before .before .before .least2 .ensures) (c .least3 .result) (c .least3 .ensures),
 )
 
 loop-less-2 : tie.Need-loop-less-2 Inv-loop μ-loop
@@ -44,11 +44,11 @@ loop-less-2 c = omega (arith, inside (c .before .before .before .before))
 loop-again-2 : tie.Need-loop-again-2 Inv-loop μ-loop
 loop-again-2 c = (
   lower (c .before .before .before .before .before .loop .inv .0) (c .before .before .before .before .before .loop .middle) (c .before .before .raw .result) (inside (c .before .before .before .before) .0) (inside (c .before .before .before .before) .1) (c .before .before .raw .ensures) (c .before .if1 .left),
-  next-down (c .before .before .before .before .before .loop .low) (c .before .before .before .before .before .loop .middle) (c .before .before .before .before .before .loop .step) (c .before .before .before .least2 .result) (c .before .before .before .before .before .loop .inv .1 .step-positive) (c .before .before .before .least2 .ensures) (c .least4 .result) (c .least4 .ensures),
+  next-down (c .before .before .before .before .before .loop .low) (c .before .before .before .before .before .loop .middle) (c .before .before .before .before .before .loop .stride) (c .before .before .before .least2 .result) (c .before .before .before .before .before .loop .inv .1 .stride-positive) (c .before .before .before .least2 .ensures) (c .least4 .result) (c .least4 .ensures),
 )
 
 returns : tie.Need-returns Inv-loop μ-loop
-returns c = end-top (c .before .before .loop .inv .0) (c .before .before .before .before .pre .0 .rises) (c .before .loop-test .left) (c .if2 .taken)
+returns c = end-last (c .before .before .loop .inv .0) (c .before .before .before .before .pre .0 .rises) (c .before .loop-test .left) (c .if2 .taken)
 
 raw-requires-2 : tie.Need-raw-requires-2 Inv-loop μ-loop
 raw-requires-2 c κs = c .before .before .before .before .before .pre .0 .fits 0 (omega arith)

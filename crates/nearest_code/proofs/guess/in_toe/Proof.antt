@@ -7,8 +7,8 @@ use Rattle.whole.proofs.Sizes.{bits}
 use Rattle.nearest_code.proofs.guess.in_toe.Statement.{statement}
 use Rattle.nearest_code.proofs.guess.in_toe.Tie as tie
 
-rise : {y : ℕ} → y < 2 ^ 21 → (over : ℕ) → y * (over % 1099511627776) < 2 ^ 61
-rise h over = bits 21 40 h (omega arith)
+rise : {y : ℕ} → y < 2 ^ 21 → (over : ℕ) → y * (over % 2 ^ 42) < 2 ^ 63
+rise h over = bits 21 42 h (omega arith)
 
 mul-rise : tie.Need-mul-rise
 mul-rise c = omega (arith, rise (c .before .pre) (c .before .args .d .over))

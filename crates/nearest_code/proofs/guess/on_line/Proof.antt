@@ -10,7 +10,7 @@ use Rattle.nearest_code.proofs.guess.on_line.Tie as tie
 rise : {slope log : ℕ} → slope < 2 ^ 29 → log < 2 ^ 23 → slope * log < 2 ^ 52
 rise h g = bits 29 23 h g
 
-code : {rise top : ℕ} (start : ℕ) → rise < 2 ^ 52 → top < 2 ^ 16 → (rise - start) / 65536 * top < 2 ^ 52
+code : {rise last : ℕ} (start : ℕ) → rise < 2 ^ 52 → last < 2 ^ 16 → (rise - start) / 65536 * last < 2 ^ 52
 code start h g = bits 36 16 (omega arith) g
 
 mul-rise : tie.Need-mul-rise
@@ -18,7 +18,7 @@ mul-rise c = omega (arith, rise (c .before .before .pre .0) (c .before .log2 .en
 
 -- the code is small
 small : (c : tie.Else1)
-    → (c .before .before .before .args .k .slope * c .before .before .log2 .result - c .before .before .before .args .k .start) / 65536 * c .before .before .before .args .top < 2 ^ 52
+    → (c .before .before .before .args .k .slope * c .before .before .log2 .result - c .before .before .before .args .k .start) / 65536 * c .before .before .before .args .last < 2 ^ 52
 small c =
     code (c .before .before .before .args .k .start) (rise (c .before .before .before .pre .0) (c .before .before .log2 .ensures)) (c .before .before .before .pre .1)
 

@@ -11,15 +11,15 @@ use Rattle.decode.proofs.decoder.Decoder.new.Tie as tie
 
 log-c-requires : tie.Need-log-c-requires
 log-c-requires c κs =
-    let told = c .before .before .before in
+    let told = c .before .before in
     let s = told .before .before .before in
-    subst₂ Small (sym (c .before .before .at .ensures)) (sym (c .before .last-step .ensures)) (constants-small (s .args .s) (s .pre) (sym (told .before .before .name-of .ensures) ∙ told .enum-told .given .1))
+    subst₂ Small (sym (c .before .at .ensures)) (sym (c .last-step .ensures)) (constants-small (s .args .s) (s .pre) (sym (told .before .before .name-of .ensures) ∙ told .enum-told .given .1))
 
 returns : tie.Need-returns
 returns c =
-    let told = c .before .before .before .before in
+    let told = c .before .before .before in
     let s = told .before .before .before in
-    c .log-c .ensures ∙ ap decoderOf (scale-is (s .args .s) _ _ (sym (told .before .before .name-of .ensures) ∙ told .enum-told .given .1) (c .before .before .before .at .ensures) (c .before .before .last-step .ensures))
+    c .log-c .ensures ∙ ap decoderOf (scale-is (s .args .s) _ _ (sym (told .before .before .name-of .ensures) ∙ told .enum-told .given .1) (c .before .before .at .ensures) (c .before .last-step .ensures))
 
 returns-2 : tie.Need-returns-2
 returns-2 c =
@@ -39,7 +39,6 @@ new-spec =
     (λ c. search needs)
     (λ c κs. search needs)
     (λ c κs. search needs)
-    (λ c. search needs)
     log-c-requires
     (λ c. search needs)
     (λ c κs. search needs)

@@ -13,8 +13,7 @@ raw-spec =
     (tie.spec
     (λ c. search needs)
     (λ c. search needs)
-    (λ c. search needs)
-    (λ c. c .before .before .before .pre .over (c .if1 .taken))
+    (λ c. c .before .before .pre .over (c .if1 .taken))
     (λ c. rw (lt-ltb _ _ (c .if1 .taken)))
     (λ c κs. search needs)
     (λ c. search needs)
