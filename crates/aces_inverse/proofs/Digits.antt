@@ -16,19 +16,18 @@ use Rattle.row_product.proofs.Sizes.{rows-small}
 use Rattle.row_product.proofs.Split.{two-digits}
 use Rattle.aces_inverse.specs.Inverse.{logC3Inverse, logC4Inverse, inverseRows, highRows, lowRows, pair}
 
-pub high-small : (s : Setting) → SmallRows (highRows s)
-high-small s = go (eqb (s .curve) 3)
+digits-small : (digit : ℤ → ℤ) → SmallRows (map (map digit) logC3Inverse) → SmallRows (map (map digit) logC4Inverse) → (s : Setting) → SmallRows (map (map digit) (inverseRows s))
+digits-small digit h g s = go (eqb (s .curve) 3)
   where
-    go : (b : Bool) → SmallRows (map (map (upper 2097152)) (choose b logC3Inverse logC4Inverse))
-    go true = rows-small (map (map (upper 2097152)) logC3Inverse) tt tt tt
-    go false = rows-small (map (map (upper 2097152)) logC4Inverse) tt tt tt
+    go : (b : Bool) → SmallRows (map (map digit) (choose b logC3Inverse logC4Inverse))
+    go true = h
+    go false = g
+
+pub high-small : (s : Setting) → SmallRows (highRows s)
+high-small = digits-small (upper 2097152) (rows-small _ tt tt tt) (rows-small _ tt tt tt)
 
 pub low-small : (s : Setting) → SmallRows (lowRows s)
-low-small s = go (eqb (s .curve) 3)
-  where
-    go : (b : Bool) → SmallRows (map (map (lower 2097152)) (choose b logC3Inverse logC4Inverse))
-    go true = rows-small (map (map (lower 2097152)) logC3Inverse) tt tt tt
-    go false = rows-small (map (map (lower 2097152)) logC4Inverse) tt tt tt
+low-small = digits-small (lower 2097152) (rows-small _ tt tt tt) (rows-small _ tt tt tt)
 
 pub pair-is : (s : Setting) (i : ℕ) → i < 3 → (x y z : ℤ) → pair (rowProduct (plain (highRows s)) i x y z) (rowProduct (plain (lowRows s)) i x y z) ≡ rowProduct (plain (inverseRows s)) i x y z
 pair-is s i h x y z = go (eqb (s .curve) 3) i h

@@ -23,13 +23,12 @@ use Rattle.rules.specs.Decoding.{Decodes, DecodesPart, tolerance, unit}
 use Rattle.rules.specs.Encoding.{IsNearest, sceneCheck}
 use Rattle.rules.specs.Float.{valueOf, floatCheck, unitsOf}
 use Rattle.rules.proofs.Values as values
-use Rattle.rules.proofs.Search.{Gives, equal3-same, none-found}
+use Rattle.rules.proofs.Search.{near-within3, none-found}
 use Rattle.rules.specs.Matrix.{minus, matrixOf, acesNumber}
 use Rattle.rules.specs.declared.Pixel.{Pixel}
-use Rattle.rules.specs.declared.Triple.{Triple}
 use Rattle.rules.specs.declared.Found.{Found}
 use Rattle.rules.specs.Refusal.{numberOfCheck}
-use Rattle.rules.specs.WayBack.{equal3, pixelWith, foundCheck}
+use Rattle.rules.specs.WayBack.{within3, pixelBy, foundCheck}
 use Rattle.rules.specs.Strip.{answerOf}
 use Rattle.decode.specs.Decoded.{decoded}
 use Rattle.decode.proofs.Distance.{decodes-rises, decodes-small}
@@ -37,7 +36,7 @@ use Rattle.decode.proofs.Theorems.{decoding}
 use Rattle.encode.proofs.Theorems.{encode-near}
 use Rattle.aces_inverse.specs.Inverse.{candidate}
 use Rattle.way_back.specs.Candidate.{codeFor, candidatePixel}
-use Rattle.way_back.proofs.Only.{only-candidate-by}
+use Rattle.way_back.proofs.Only.{GivesBy, exact-enough, only-candidate-by}
 use Rattle.marked.specs.Marked.{Marked, setting, Allowed, limit, nextTriple}
 use Rattle.rules.specs.Pixels.{pixel, acesOf}
 
@@ -127,19 +126,20 @@ first-pixel =
 
 module _ (number : ℕ → ℤ) (allowed : Allowed s800 number) where
   -- it gives another triple
-  first-gives : equal3 nextTriple (acesOf number (matrixOf s800) (pixel 0 0 0)) ≡ false
-  unfolding acesNumber equal3
+  first-gives : within3 0 nextTriple (acesOf number (matrixOf s800) (pixel 0 0 0)) ≡ false
+  unfolding acesNumber within3
   first-gives = rw (toe-number 0 (number 0) (allowed 0 (lit≤ tt)))
 
   -- and no other pixel can give this one
-  never : (q : Pixel) → Gives number (matrixOf s800) (topOf 12) nextTriple q → ⊥
+  never : (q : Pixel) → GivesBy 0 number s800 nextTriple q → ⊥
   never q g =
-      let e : q ≡ pixel 0 0 0 = only-candidate-by s800 valid-800 number allowed nextTriple q g ∙ first-pixel in
-      let f : equal3 nextTriple (acesOf number (matrixOf s800) q) ≡ true = ap (λ (a : Triple). equal3 nextTriple a) (sym (g .numbers)) ∙ equal3-same nextTriple in
-      absurd (subst T (sym f ∙ ap (λ (p : Pixel). equal3 nextTriple (acesOf number (matrixOf s800) p)) e ∙ first-gives) tt)
+      let e : q ≡ pixel 0 0 0 = only-candidate-by s800 valid-800 number allowed 0 exact-enough nextTriple q g ∙ first-pixel in
+      let f : within3 0 nextTriple (acesOf number (matrixOf s800) q) ≡ true = near-within3 0 nextTriple (acesOf number (matrixOf s800) q) (g .numbers) in
+      absurd (subst T (sym f ∙ ap (λ (p : Pixel). within3 0 nextTriple (acesOf number (matrixOf s800) p)) e ∙ first-gives) tt)
 
-  no-pixel : numberOfCheck (foundCheck (pixelWith number (matrixOf s800) (topOf 12) nextTriple)) ≡ 10
-  no-pixel = ap (λ (f : Found). numberOfCheck (foundCheck f)) (none-found number (matrixOf s800) (topOf 12) nextTriple never)
+  no-pixel : numberOfCheck (foundCheck (pixelBy (λ s. number) s800 nextTriple)) ≡ 10
+  unfolding pixelBy
+  no-pixel = ap (λ (f : Found). numberOfCheck (foundCheck f)) (none-found 0 number (matrixOf s800) (λ i. i) (topOf 12) nextTriple never)
 
 -- THE LIST
 pub marked : Marked

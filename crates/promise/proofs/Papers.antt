@@ -15,7 +15,7 @@ use Rattle.rules.specs.Setting.{topOf, Valid}
 use Rattle.rules.specs.Matrix.{matrixOf}
 use Rattle.rules.specs.Record.{settingOf, pixelIn, acesRecord}
 use Rattle.rules.specs.Strip.{records, recordAt, written}
-use Rattle.rules.specs.WayBack.{pixelWith, pixelBy}
+use Rattle.rules.specs.WayBack.{pixelBy}
 use Rattle.rules.proofs.Search.{same-aces, same-found}
 use Rattle.rules.proofs.Settings.{code-passed}
 use Rattle.decode.specs.Decoded.{decoded}
@@ -55,6 +55,6 @@ module _ (number : Setting → ℕ → ℤ) (near : NearestNumbers number) where
       10 n pixels (λ k l. ap (acesRecord (settingOf (recordAt 10 k pixels))) (same-record (recordAt 10 k pixels) (a .each k l))))
 
   -- THE WAY BACK finds the same pixel, or none, for any three numbers
-  pub papers-alone-back : (s : Setting) → Valid s → (a : Triple) → pixelWith (number s) (matrixOf s) (topOf (s .width)) a ≡ pixelFor s a
+  pub papers-alone-back : (s : Setting) → Valid s → (a : Triple) → pixelBy number s a ≡ pixelFor s a
   unfolding pixelBy
-  papers-alone-back s v a = same-found (number s) (decoded s) (matrixOf s) (topOf (s .width)) a (λ n h. nearest-numbers number near s v n h)
+  papers-alone-back s v a = same-found 0 (number s) (decoded s) (matrixOf s) (λ i. i) (topOf (s .width)) a (λ n h. nearest-numbers number near s v n h)

@@ -1,61 +1,97 @@
--- What a search over all pixels finds: a pixel that gives the numbers; the only one there is, where there is one; and the same by any numbers
--- of the codes that agree.
+-- What a search over all pixels finds: a pixel that gives numbers at most e from those given; the only one there is, where there is one; and
+-- the same by any numbers of the codes that agree.
 -- Assumes nothing.
 use mathlib.Core.Bool.{Bool, true, false}
+use mathlib.Core.Logic.{_↔_}
 use mathlib.Core.Path.{_≡_, refl, sym, ap, ap₂, _∙_, subst}
-use Prim.Native.Nat.{ℕ, zero, suc, _+_, _≤_, _<_}
+use Prim.Native.Nat.{ℕ, zero, suc, _+_, _≤_}
 use native.Mathlib.Nat.{le-refl}
 use native.Mathlib.Omega.{arith}
 use borrow.Author.Tests.{leb-true, leb-false}
 use lib.Dec.{T, leb}
-use lib.IntN.{ℤ}
+use lib.IntN.{ℤ, pos, _+ℤ_}
 use lib.Signed.{leZ}
-use Rattle.whole.proofs.Reflect.{at, leN-of, leZ-of, same}
+use Rattle.whole.proofs.Reflect.{at, add, leN-of, leZ-of}
+use Rattle.whole.proofs.Near.{Near, near-same, same-near}
+use Rattle.rules.specs.declared.Setting.{Setting}
 use Rattle.rules.specs.declared.Pixel.{Pixel}
 use Rattle.rules.specs.declared.Triple.{Triple}
 use Rattle.rules.specs.declared.Found.{Found}
 use Rattle.rules.specs.declared.Found as found
 use Rattle.rules.specs.Choice.{choose}
-use Rattle.rules.specs.Matrix.{Matrix, acesNumber}
-use Rattle.rules.specs.WayBack.{equal, equal3, orElse, firstFound, tried, pixelWith}
-use Rattle.rules.specs.Pixels.{pixel, triple, acesOf}
+use Rattle.rules.specs.Setting.{topOf}
+use Rattle.rules.specs.Matrix.{Matrix, matrixOf, acesNumber}
+use Rattle.rules.specs.WayBack.{within, within3, orElse, firstFound, tried, pixelWith, pixelBy}
+use Rattle.rules.specs.Pixels.{pixel, triple, acesOf, acesBy}
 
--- ---- equal numbers
-pub equal-is : (x y : ℤ) → equal x y ≡ true → x ≡ y
-equal-is x y e = go (leZ x y) (leZ y x) refl refl e
-  where
-    both : T (leZ x y) → T (leZ y x) → x ≡ y
-    both t u = same x y (omega (arith, leN-of (at x) (at y) (record { le = t }), leN-of (at y) (at x) (record { le = u })))
-
-    go : (b c : Bool) → leZ x y ≡ b → leZ y x ≡ c → choose b c false ≡ true → x ≡ y
-    go true true f g e = both (subst T (sym f) tt) (subst T (sym g) tt)
-    go true false f g e = absurd (subst T (sym e) tt)
-    go false c f g e = absurd (subst T (sym e) tt)
-
+-- ---- numbers at most e apart
 yes : (b : Bool) → T b → b ≡ true
 yes true t = refl
 yes false t = absurd t
 
-pub equal-same : (x : ℤ) → equal x x ≡ true
-equal-same x = let e = yes (leZ x x) (leZ-of (at x) (at x) (omega arith) .le) in rw e
+both : (b c : Bool) → choose b c false ≡ true → (b ≡ true) × (c ≡ true)
+both true true e = (refl, refl)
+both true false e = absurd (subst T (sym e) tt)
+both false c e = absurd (subst T (sym e) tt)
 
-pub equal3-is : (a b : Triple) → equal3 a b ≡ true → a ≡ b
-unfolding equal3
-equal3-is a b e = go (equal (a .red .0) (b .red .0)) (equal (a .green .0) (b .green .0)) (equal (a .blue .0) (b .blue .0)) refl refl refl e
-  where
-    go : (r g u : Bool) → equal (a .red .0) (b .red .0) ≡ r → equal (a .green .0) (b .green .0) ≡ g → equal (a .blue .0) (b .blue .0) ≡ u → choose r (choose g u false) false ≡ true → a ≡ b
-    go true true true f g h e =
-        let er = equal-is (a .red .0) (b .red .0) f in
-        let eg = equal-is (a .green .0) (b .green .0) g in
-        let eb = equal-is (a .blue .0) (b .blue .0) h in
-        λ i. record { red = record { 0 = er i }; green = record { 0 = eg i }; blue = record { 0 = eb i } }
-    go true true false f g h e = absurd (subst T (sym e) tt)
-    go true false u f g h e = absurd (subst T (sym e) tt)
-    go false g u f g′ h e = absurd (subst T (sym e) tt)
+pub within-near : (e : ℕ) (x y : ℤ) → within e x y ≡ true → Near x y e
+within-near e x y t =
+    let h = both (leZ x (y +ℤ pos e)) (leZ y (x +ℤ pos e)) t in
+    record {
+      high = omega (arith, leN-of (at x) (add (at y) (at (pos e))) (record { le = subst T (sym (h .0)) tt }));
+      low = omega (arith, leN-of (at y) (add (at x) (at (pos e))) (record { le = subst T (sym (h .1)) tt }));
+    }
 
-pub equal3-same : (a : Triple) → equal3 a a ≡ true
-unfolding equal3
-equal3-same a = rw (equal-same (a .red .0), equal-same (a .green .0), equal-same (a .blue .0))
+pub near-within : (e : ℕ) (x y : ℤ) → Near x y e → within e x y ≡ true
+near-within e x y n =
+    let h = yes (leZ x (y +ℤ pos e)) (leZ-of (at x) (add (at y) (at (pos e))) (omega (arith, n .high)) .le) in
+    let l = yes (leZ y (x +ℤ pos e)) (leZ-of (at y) (add (at x) (at (pos e))) (omega (arith, n .low)) .le) in
+    rw (h, l)
+
+-- at distance 0 they are equal
+pub within-equal : (x y : ℤ) → (within 0 x y ≡ true) ↔ (x ≡ y)
+within-equal x y = (λ t. near-same (within-near 0 x y t), λ h. near-within 0 x y (same-near h))
+
+-- three numbers, each at most e from its own of three others
+pub record NearTriple (a b : Triple) (e : ℕ) : Type 0 where
+  pub red : Near (a .red .0) (b .red .0) e
+  pub green : Near (a .green .0) (b .green .0) e
+  pub blue : Near (a .blue .0) (b .blue .0) e
+
+pub within3-near : (e : ℕ) (a b : Triple) → within3 e a b ≡ true → NearTriple a b e
+unfolding within3
+within3-near e a b t =
+    let r = both (within e (a .red .0) (b .red .0)) (choose (within e (a .green .0) (b .green .0)) (within e (a .blue .0) (b .blue .0)) false) t in
+    let g = both (within e (a .green .0) (b .green .0)) (within e (a .blue .0) (b .blue .0)) (r .1) in
+    record {
+      red = within-near e (a .red .0) (b .red .0) (r .0);
+      green = within-near e (a .green .0) (b .green .0) (g .0);
+      blue = within-near e (a .blue .0) (b .blue .0) (g .1);
+    }
+
+pub near-within3 : (e : ℕ) (a b : Triple) → NearTriple a b e → within3 e a b ≡ true
+unfolding within3
+near-within3 e a b n =
+    rw (near-within e (a .red .0) (b .red .0) (n .red), near-within e (a .green .0) (b .green .0) (n .green), near-within e (a .blue .0) (b .blue .0) (n .blue))
+
+-- at distance 0 they are equal
+pub triple-same : {a b : Triple} → NearTriple a b 0 → a ≡ b
+triple-same n =
+    let r = near-same (n .red) in
+    let g = near-same (n .green) in
+    let b = near-same (n .blue) in
+    λ i. record { red = record { 0 = r i }; green = record { 0 = g i }; blue = record { 0 = b i } }
+
+pub same-triple : {a b : Triple} → a ≡ b → NearTriple a b 0
+same-triple h =
+    record {
+      red = same-near (ap (λ (t : Triple). t .red .0) h);
+      green = same-near (ap (λ (t : Triple). t .green .0) h);
+      blue = same-near (ap (λ (t : Triple). t .blue .0) h);
+    }
+
+pub within3-equal : (a b : Triple) → (within3 0 a b ≡ true) ↔ (a ≡ b)
+within3-equal a b = (λ t. triple-same (within3-near 0 a b t), λ h. near-within3 0 a b (same-triple h))
 
 -- ---- what is found
 abbrev IsPixelOrNot : Found → Type 0
@@ -73,8 +109,8 @@ pub same-pixel : {p q : Pixel} → found.Found.Pixel p ≡ found.Found.Pixel q �
 same-pixel {p} e = ap (pixelOr p) e
 
 module _ (f : ℕ → Found) where
-  -- what holds of all that is found code by code holds of what is found first
-  pub first-all : (P : Pixel → Type 0) (top : ℕ) → ((j : ℕ) → j ≤ top → (q : Pixel) → f j ≡ found.Found.Pixel q → P q) → (q : Pixel) → firstFound f top ≡ found.Found.Pixel q → P q
+  -- what holds of all that is found step by step holds of what is found first
+  pub first-all : (P : Pixel → Type 0) (last : ℕ) → ((j : ℕ) → j ≤ last → (q : Pixel) → f j ≡ found.Found.Pixel q → P q) → (q : Pixel) → firstFound f last ≡ found.Found.Pixel q → P q
   unfolding firstFound
   first-all P zero h q e = h 0 (le-refl 0) q e
   first-all P (suc k) h q e = go (firstFound f k) refl e (λ g. first-all P k (λ j l. h j (omega arith)) q g)
@@ -84,8 +120,8 @@ module _ (f : ℕ → Found) where
       go found.Found.Nothing g e before = h (suc k) (le-refl (suc k)) q e
 
   -- and where only one pixel can be found, it is found
-  pub first-only : (p : Pixel) (top : ℕ) → ((j : ℕ) → j ≤ top → (q : Pixel) → f j ≡ found.Found.Pixel q → q ≡ p)
-      → (i : ℕ) → i ≤ top → f i ≡ found.Found.Pixel p → firstFound f top ≡ found.Found.Pixel p
+  pub first-only : (p : Pixel) (last : ℕ) → ((j : ℕ) → j ≤ last → (q : Pixel) → f j ≡ found.Found.Pixel q → q ≡ p)
+      → (i : ℕ) → i ≤ last → f i ≡ found.Found.Pixel p → firstFound f last ≡ found.Found.Pixel p
   unfolding firstFound
   first-only p zero h i l e = subst (λ (j : ℕ). f j ≡ found.Found.Pixel p) (let z : i ≡ 0 = omega arith in z) e
   first-only p (suc k) h i l e = go (firstFound f k) refl (leb i k) refl (λ m. first-only p k (λ j m. h j (omega arith)) i m e)
@@ -96,78 +132,114 @@ module _ (f : ℕ → Found) where
       go found.Found.Nothing g false t before = subst (λ (j : ℕ). f j ≡ found.Found.Pixel p) (let u = leb-false i k t in let z : i ≡ suc k = omega arith in z) e
 
 -- ---- all pixels
-module _ (number : ℕ → ℤ) (m : Matrix) (top : ℕ) (a : Triple) where
-  -- codes up to top that give the numbers
+
+-- the code of a step
+pub record IsCode (code : ℕ → ℕ) (last n : ℕ) : Type 0 where
+  pub step : ℕ
+  pub in-range : step ≤ last
+  pub code-is : code step ≡ n
+
+-- where each step is its own code
+pub own-code : {last n : ℕ} → n ≤ last → IsCode (λ i. i) last n
+own-code {last} {n} h = record { step = n; in-range = h; code-is = refl }
+
+pub code-in-range : {last n : ℕ} → IsCode (λ i. i) last n → n ≤ last
+code-in-range {last} c = subst (λ (n : ℕ). n ≤ last) (c .code-is) (c .in-range)
+
+module _ (e : ℕ) (number : ℕ → ℤ) (m : Matrix) (code : ℕ → ℕ) (last : ℕ) (a : Triple) where
+  -- codes that give numbers at most e from those given
   pub record Gives (p : Pixel) : Type 0 where
-    pub red : p .red .0 ≤ top
-    pub green : p .green .0 ≤ top
-    pub blue : p .blue .0 ≤ top
-    pub numbers : a ≡ acesOf number m p
+    pub red : IsCode code last (p .red .0)
+    pub green : IsCode code last (p .green .0)
+    pub blue : IsCode code last (p .blue .0)
+    pub numbers : NearTriple a (acesOf number m p) e
 
-  tried-gives : (r g b : ℕ) → r ≤ top → g ≤ top → b ≤ top → (q : Pixel) → tried number m a (pixel r g b) ≡ found.Found.Pixel q → Gives q
-  tried-gives r g b hr hg hb q e = go (equal3 a (acesOf number m (pixel r g b))) refl e
+  -- the pixel of three steps
+  abbrev at-steps : (r g b : ℕ) → Pixel
+  at-steps r g b = pixel (code r) (code g) (code b)
+
+  tried-gives : (r g b : ℕ) → r ≤ last → g ≤ last → b ≤ last → (q : Pixel) → tried e number m a (at-steps r g b) ≡ found.Found.Pixel q → Gives q
+  tried-gives r g b hr hg hb q f = go (within3 e a (acesOf number m (at-steps r g b))) refl f
     where
-      here : equal3 a (acesOf number m (pixel r g b)) ≡ true → Gives (pixel r g b)
-      here t = record { red = hr; green = hg; blue = hb; numbers = equal3-is a (acesOf number m (pixel r g b)) t }
+      here : within3 e a (acesOf number m (at-steps r g b)) ≡ true → Gives (at-steps r g b)
+      here t =
+          record {
+            red = record { step = r; in-range = hr; code-is = refl };
+            green = record { step = g; in-range = hg; code-is = refl };
+            blue = record { step = b; in-range = hb; code-is = refl };
+            numbers = within3-near e a (acesOf number m (at-steps r g b)) t;
+          }
 
-      go : (t : Bool) → equal3 a (acesOf number m (pixel r g b)) ≡ t → choose t (found.Found.Pixel (pixel r g b)) found.Found.Nothing ≡ found.Found.Pixel q → Gives q
-      go true t e = subst Gives (same-pixel e) (here t)
-      go false t e = not-nothing e
+      go : (t : Bool) → within3 e a (acesOf number m (at-steps r g b)) ≡ t → choose t (found.Found.Pixel (at-steps r g b)) found.Found.Nothing ≡ found.Found.Pixel q → Gives q
+      go true t f = subst Gives (same-pixel f) (here t)
+      go false t f = not-nothing f
 
   abbrev greens : (r : ℕ) → ℕ → Found
-  greens r g = firstFound (λ b. tried number m a (pixel r g b)) top
+  greens r g = firstFound (λ b. tried e number m a (at-steps r g b)) last
 
   abbrev reds : ℕ → Found
-  reds r = firstFound (greens r) top
+  reds r = firstFound (greens r) last
 
-  green-gives : (r g : ℕ) → r ≤ top → g ≤ top → (q : Pixel) → greens r g ≡ found.Found.Pixel q → Gives q
-  green-gives r g hr hg = first-all (λ b. tried number m a (pixel r g b)) Gives top (λ b hb. tried-gives r g b hr hg hb)
+  green-gives : (r g : ℕ) → r ≤ last → g ≤ last → (q : Pixel) → greens r g ≡ found.Found.Pixel q → Gives q
+  green-gives r g hr hg = first-all (λ b. tried e number m a (at-steps r g b)) Gives last (λ b hb. tried-gives r g b hr hg hb)
 
-  red-gives : (r : ℕ) → r ≤ top → (q : Pixel) → reds r ≡ found.Found.Pixel q → Gives q
-  red-gives r hr = first-all (greens r) Gives top (λ g hg. green-gives r g hr hg)
+  red-gives : (r : ℕ) → r ≤ last → (q : Pixel) → reds r ≡ found.Found.Pixel q → Gives q
+  red-gives r hr = first-all (greens r) Gives last (λ g hg. green-gives r g hr hg)
 
-  -- WHAT IS FOUND gives the numbers
-  pub found-gives : (q : Pixel) → pixelWith number m top a ≡ found.Found.Pixel q → Gives q
+  -- WHAT IS FOUND gives such numbers
+  pub found-gives : (q : Pixel) → pixelWith e number m code last a ≡ found.Found.Pixel q → Gives q
   unfolding pixelWith
-  found-gives = first-all reds Gives top (λ r hr. red-gives r hr)
+  found-gives = first-all reds Gives last (λ r hr. red-gives r hr)
 
-  -- WHAT GIVES THE NUMBERS is found, where nothing else gives them
-  pub gives-found : (p : Pixel) → ((q : Pixel) → Gives q → q ≡ p) → Gives p → pixelWith number m top a ≡ found.Found.Pixel p
+  -- WHAT GIVES SUCH NUMBERS is found, where nothing else gives them
+  pub gives-found : (p : Pixel) → ((q : Pixel) → Gives q → q ≡ p) → Gives p → pixelWith e number m code last a ≡ found.Found.Pixel p
   unfolding pixelWith
   gives-found p only h =
-      first-only reds p top (λ r hr q e. only q (red-gives r hr q e)) (p .red .0) (h .red)
-      (first-only (greens (p .red .0)) p top (λ g hg q e. only q (green-gives (p .red .0) g (h .red) hg q e)) (p .green .0) (h .green)
-      (first-only (λ b. tried number m a (pixel (p .red .0) (p .green .0) b)) p top (λ b hb q e. only q (tried-gives (p .red .0) (p .green .0) b (h .red) (h .green) hb q e)) (p .blue .0) (h .blue) here))
+      let r = h .red .step in
+      let g = h .green .step in
+      first-only reds p last (λ r hr q f. only q (red-gives r hr q f)) r (h .red .in-range)
+      (first-only (greens r) p last (λ g hg q f. only q (green-gives r g (h .red .in-range) hg q f)) g (h .green .in-range)
+      (first-only (λ b. tried e number m a (at-steps r g b)) p last (λ b hb q f. only q (tried-gives r g b (h .red .in-range) (h .green .in-range) hb q f)) (h .blue .step) (h .blue .in-range)
+      (ap (tried e number m a) is-p ∙ here)))
     where
-      here : tried number m a p ≡ found.Found.Pixel p
-      here =
-          ap (λ (t : Bool). choose t (found.Found.Pixel p) found.Found.Nothing)
-          (ap (λ (b : Triple). equal3 a b) (sym (h .numbers)) ∙ equal3-same a)
+      is-p : at-steps (h .red .step) (h .green .step) (h .blue .step) ≡ p
+      is-p = λ i. pixel (h .red .code-is i) (h .green .code-is i) (h .blue .code-is i)
+
+      here : tried e number m a p ≡ found.Found.Pixel p
+      here = ap (λ (t : Bool). choose t (found.Found.Pixel p) found.Found.Nothing) (near-within3 e a (acesOf number m p) (h .numbers))
 
   -- and NOTHING is found where nothing gives them
-  pub none-found : ((q : Pixel) → Gives q → ⊥) → pixelWith number m top a ≡ found.Found.Nothing
-  none-found never = go (pixelWith number m top a) refl
+  pub none-found : ((q : Pixel) → Gives q → ⊥) → pixelWith e number m code last a ≡ found.Found.Nothing
+  none-found never = go (pixelWith e number m code last a) refl
     where
-      go : (x : Found) → pixelWith number m top a ≡ x → x ≡ found.Found.Nothing
-      go (found.Found.Pixel q) e = absurd (never q (found-gives q e))
-      go found.Found.Nothing e = refl
+      go : (x : Found) → pixelWith e number m code last a ≡ x → x ≡ found.Found.Nothing
+      go (found.Found.Pixel q) f = absurd (never q (found-gives q f))
+      go found.Found.Nothing f = refl
+
+-- THE EXACT WAY BACK finds a pixel with exactly that triple, whatever numbers the codes have
+pub exact-found : (number : Setting → ℕ → ℤ) (s : Setting) (a : Triple) (p : Pixel) → pixelBy number s a ≡ found.Found.Pixel p → acesBy number s p ≡ a
+unfolding pixelBy
+exact-found number s a p f = sym (triple-same (found-gives 0 (number s) (matrixOf s) (λ i. i) (topOf (s .width)) a p f .numbers))
 
 -- ---- numbers that agree on the codes give the same ACES numbers, and the same pixel is found
 pub same-aces : (number other : ℕ → ℤ) (m : Matrix) (p : Pixel) → number (p .red .0) ≡ other (p .red .0) → number (p .green .0) ≡ other (p .green .0) → number (p .blue .0) ≡ other (p .blue .0)
     → acesOf number m p ≡ acesOf other m p
 same-aces number other m p er eg eb = λ i. triple (acesNumber m 0 (er i) (eg i) (eb i)) (acesNumber m 1 (er i) (eg i) (eb i)) (acesNumber m 2 (er i) (eg i) (eb i))
 
-same-first : (f g : ℕ → Found) (top : ℕ) → ((n : ℕ) → n ≤ top → f n ≡ g n) → firstFound f top ≡ firstFound g top
+same-first : (f g : ℕ → Found) (last : ℕ) → ((n : ℕ) → n ≤ last → f n ≡ g n) → firstFound f last ≡ firstFound g last
 unfolding firstFound
 same-first f g zero h = h 0 (le-refl 0)
 same-first f g (suc k) h = ap₂ orElse (same-first f g k (λ n l. h n (omega arith))) (h (suc k) (le-refl (suc k)))
 
-pub same-found : (number other : ℕ → ℤ) (m : Matrix) (top : ℕ) (a : Triple) → ((n : ℕ) → n ≤ top → number n ≡ other n) → pixelWith number m top a ≡ pixelWith other m top a
+pub same-found : (e : ℕ) (number other : ℕ → ℤ) (m : Matrix) (code : ℕ → ℕ) (last : ℕ) (a : Triple) → ((i : ℕ) → i ≤ last → number (code i) ≡ other (code i))
+    → pixelWith e number m code last a ≡ pixelWith e other m code last a
 unfolding pixelWith
-same-found number other m top a h =
-    same-first _ _ top
+same-found e number other m code last a h =
+    same-first _ _ last
     (λ r lr.
-    same-first _ _ top
+    same-first _ _ last
     (λ g lg.
-    same-first _ _ top
-    (λ b lb. ap (λ (x : Triple). choose (equal3 a x) (found.Found.Pixel (pixel r g b)) found.Found.Nothing) (same-aces number other m (pixel r g b) (h r lr) (h g lg) (h b lb)))))
+    same-first _ _ last
+    (λ b lb.
+    let p = pixel (code r) (code g) (code b) in
+    ap (λ (x : Triple). choose (within3 e a x) (found.Found.Pixel p) found.Found.Nothing) (same-aces number other m p (h r lr) (h g lg) (h b lb)))))

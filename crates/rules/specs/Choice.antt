@@ -14,3 +14,7 @@ choose false a b = b
 abbrev pub member : ℕ → List ℕ → Bool
 member n [] = false
 member n (m ∷ ms) = choose (eqb n m) true (member n ms)
+
+-- whether all of three tests are passed
+abbrev pub allThree : (a b c : Bool) → Bool
+allThree a b c = choose a (choose b c false) false

@@ -1,10 +1,9 @@
--- 01, "ACES and the way back": the pixel that gives three numbers. Of a setting it needs the decoded number of each code, the matrix, and the
--- top code.
+-- 01, "ACES and the way back": the pixel that gives three numbers. Of a setting it needs its codes, the decoded number of each, and the matrix.
 -- Assumes nothing.
 use mathlib.Core.Bool.{Bool, false}
 use mathlib.Core.List.{List, []}
 use Prim.Native.Nat.{ℕ, zero, suc}
-use lib.IntN.{ℤ}
+use lib.IntN.{ℤ, pos, _+ℤ_}
 use lib.Signed.{leZ}
 use Rattle.rules.specs.declared.Check.{Check}
 use Rattle.rules.specs.declared.Check.the-variants.{Passed, Refused}
@@ -14,39 +13,40 @@ use Rattle.rules.specs.declared.Pixel.{Pixel}
 use Rattle.rules.specs.declared.Triple.{Triple}
 use Rattle.rules.specs.declared.Found.{Found}
 use Rattle.rules.specs.declared.Found as found
-use Rattle.rules.specs.Choice.{choose}
+use Rattle.rules.specs.Choice.{choose, allThree}
 use Rattle.rules.specs.Setting.{topOf}
 use Rattle.rules.specs.Matrix.{Matrix, matrixOf}
 use Rattle.rules.specs.Pixels.{pixel, codes, acesOf}
 
--- a test that two are equal
-abbrev pub equal : ℤ → ℤ → Bool
-equal x y = choose (leZ x y) (leZ y x) false
+-- a test that two numbers are at most e apart, and that two triples are so in every channel
+abbrev pub within : (e : ℕ) → ℤ → ℤ → Bool
+within e x y = choose (leZ x (y +ℤ pos e)) (leZ y (x +ℤ pos e)) false
 
-unfoldable pub equal3 : Triple → Triple → Bool
-equal3 a b = choose (equal (a .red .0) (b .red .0)) (choose (equal (a .green .0) (b .green .0)) (equal (a .blue .0) (b .blue .0)) false) false
+unfoldable pub within3 : (e : ℕ) → Triple → Triple → Bool
+within3 e a b = allThree (within e (a .red .0) (b .red .0)) (within e (a .green .0) (b .green .0)) (within e (a .blue .0) (b .blue .0))
 
 -- the first where it found something, else the second
 abbrev pub orElse : Found → Found → Found
 orElse (found.Found.Pixel p) next = found.Found.Pixel p
 orElse found.Found.Nothing next = next
 
--- of the codes 0 to top the first with which something is found
-unfoldable pub firstFound : (ℕ → Found) → (top : ℕ) → Found
+-- of the steps 0 to last the first with which something is found
+unfoldable pub firstFound : (ℕ → Found) → (last : ℕ) → Found
 firstFound f zero = f 0
 firstFound f (suc k) = orElse (firstFound f k) (f (suc k))
 
--- "The way back takes any three signed numbers and returns the pixel of that setting with exactly that ACES triple": the first of all pixels,
--- in the order of their codes, that has it
-abbrev pub tried : (number : ℕ → ℤ) → Matrix → Triple → Pixel → Found
-tried number m a p = choose (equal3 a (acesOf number m p)) (found.Found.Pixel p) found.Found.Nothing
+-- a pixel, where its ACES triple is within e of the given one in every channel
+abbrev pub tried : (e : ℕ) → (number : ℕ → ℤ) → Matrix → Triple → Pixel → Found
+tried e number m a p = choose (within3 e a (acesOf number m p)) (found.Found.Pixel p) found.Found.Nothing
 
-unfoldable pub pixelWith : (number : ℕ → ℤ) → Matrix → (top : ℕ) → Triple → Found
-pixelWith number m top a = firstFound (λ r. firstFound (λ g. firstFound (λ b. tried number m a (pixel r g b)) top) top) top
+-- the first of all pixels for which that holds, in the order of their codes, which are those of the steps 0 to last
+unfoldable pub pixelWith : (e : ℕ) → (number : ℕ → ℤ) → Matrix → (code : ℕ → ℕ) → (last : ℕ) → Triple → Found
+pixelWith e number m code last a = firstFound (λ r. firstFound (λ g. firstFound (λ b. tried e number m a (pixel (code r) (code g) (code b))) last) last) last
 
--- the pixel of a setting that gives three ACES numbers, where codes have these numbers
+-- "The way back takes any three signed numbers and returns the pixel of that setting with exactly that ACES triple": at distance 0. Its
+-- codes are 0 to the top code, and have these numbers
 unfoldable pub pixelBy : (number : Setting → ℕ → ℤ) → Setting → Triple → Found
-pixelBy number s a = pixelWith (number s) (matrixOf s) (topOf (s .width)) a
+pixelBy number s a = pixelWith 0 (number s) (matrixOf s) (λ i. i) (topOf (s .width)) a
 
 -- the codes of what is found
 abbrev pub codesFound : Found → List ℕ

@@ -1,7 +1,6 @@
 -- DEMAND 3 of one record: the way back finds a pixel of the setting exactly where one gives the numbers, and it is the only one.
 -- Assumes nothing.
-use mathlib.Core.Path.{_≡_, refl, sym, ap, _∙_, subst}
-use Prim.Native.Nat.{ℕ}
+use mathlib.Core.Path.{_≡_, refl, sym, ap, _∙_}
 use Rattle.rules.specs.WayBack.{pixelBy}
 use Rattle.rules.specs.declared.Pixel.{Pixel}
 use Rattle.rules.specs.declared.Setting.{Setting}
@@ -14,42 +13,45 @@ use Rattle.rules.proofs.Search as search
 use Rattle.rules.proofs.Settings.{code-passed, code-passes}
 use Rattle.decode.specs.Decoded.{decoded}
 use Rattle.way_back.specs.Back.{pixelFor}
-use Rattle.way_back.specs.Candidate.{candidatePixel}
-use Rattle.way_back.proofs.Only.{PixelGives, only-candidate}
+use Rattle.way_back.proofs.Only.{PixelGives, exact-enough, only-candidate}
 use Rattle.rules.specs.Pixels.{IsPixel}
 use Rattle.aces.specs.OfPixel.{pixelAces}
 
 -- as the rules' words say it
-to-gives : (s : Setting) (a : Triple) (p : Pixel) → IsPixel s p → pixelAces s p ≡ a → PixelGives s a p
+to-gives : (s : Setting) (a : Triple) (p : Pixel) → IsPixel s p → pixelAces s p ≡ a → PixelGives 0 s a p
 to-gives s a p i e =
     record {
-      red = code-passed s (p .red .0) (i .red);
-      green = code-passed s (p .green .0) (i .green);
-      blue = code-passed s (p .blue .0) (i .blue);
-      numbers = sym e;
+      red = search.own-code (code-passed s (p .red .0) (i .red));
+      green = search.own-code (code-passed s (p .green .0) (i .green));
+      blue = search.own-code (code-passed s (p .blue .0) (i .blue));
+      numbers = search.same-triple (sym e);
     }
 
 -- what is found is a pixel of the setting that gives the numbers
 pub found-gives : (s : Setting) (a : Triple) (p : Pixel) → pixelFor s a ≡ found.Found.Pixel p → IsPixel s p × (pixelAces s p ≡ a)
 unfolding pixelBy
 found-gives s a p e =
-    let g = search.found-gives (decoded s) (matrixOf s) (topOf (s .width)) a p e in (
-      record { red = code-passes s (p .red .0) (g .red); green = code-passes s (p .green .0) (g .green); blue = code-passes s (p .blue .0) (g .blue) },
-      sym (g .numbers),
+    let g = search.found-gives 0 (decoded s) (matrixOf s) (λ i. i) (topOf (s .width)) a p e in (
+      record {
+        red = code-passes s (p .red .0) (search.code-in-range (g .red));
+        green = code-passes s (p .green .0) (search.code-in-range (g .green));
+        blue = code-passes s (p .blue .0) (search.code-in-range (g .blue));
+      },
+      search.exact-found decoded s a p e,
     )
 
 module _ (s : Setting) (v : Valid s) where
   -- two pixels with the same ACES numbers are one
   pub one-pixel : (p q : Pixel) → IsPixel s p → IsPixel s q → pixelAces s p ≡ pixelAces s q → p ≡ q
   one-pixel p q i j e =
-      only-candidate s v (pixelAces s q) p (to-gives s (pixelAces s q) p i e) ∙ sym (only-candidate s v (pixelAces s q) q (to-gives s (pixelAces s q) q j refl))
+      only-candidate 0 exact-enough s v (pixelAces s q) p (to-gives s (pixelAces s q) p i e) ∙ sym (only-candidate 0 exact-enough s v (pixelAces s q) q (to-gives s (pixelAces s q) q j refl))
 
   -- a pixel is found from its own ACES numbers
   pub own-found : (p : Pixel) → IsPixel s p → pixelFor s (pixelAces s p) ≡ found.Found.Pixel p
   unfolding pixelBy
   own-found p i =
-      search.gives-found (decoded s) (matrixOf s) (topOf (s .width)) (pixelAces s p) p
-      (λ q g. only-candidate s v (pixelAces s p) q g ∙ sym (only-candidate s v (pixelAces s p) p (to-gives s (pixelAces s p) p i refl)))
+      search.gives-found 0 (decoded s) (matrixOf s) (λ i. i) (topOf (s .width)) (pixelAces s p) p
+      (λ q g. only-candidate 0 exact-enough s v (pixelAces s p) q g ∙ sym (only-candidate 0 exact-enough s v (pixelAces s p) p (to-gives s (pixelAces s p) p i refl)))
       (to-gives s (pixelAces s p) p i refl)
 
   -- nothing is found exactly where no pixel gives the numbers

@@ -1,13 +1,14 @@
 -- The only pixel that can give three ACES numbers: the codes nearest to the scene numbers that the inverse matrix makes of them.
 -- Assumes nothing.
 use mathlib.Core.Bool.{Bool, false}
-use Prim.Native.Nat.{ℕ, _-_, _^_}
-use lib.IntN.{ℤ, pos, negsuc}
+use Prim.Native.Nat.{ℕ, _^_}
+use lib.IntN.{ℤ, pos}
 use lib.Signed.{leZ}
 use Rattle.rules.specs.declared.Setting.{Setting}
 use Rattle.rules.specs.declared.Pixel.{Pixel}
 use Rattle.rules.specs.declared.Triple.{Triple}
-use Rattle.rules.specs.Choice.{choose}
+use Rattle.rules.specs.Choice.{choose, allThree}
+use Rattle.rules.specs.Matrix.{minus}
 use Rattle.encode.specs.Encoded.{encoded}
 use Rattle.aces_inverse.specs.Inverse.{candidate}
 use Rattle.rules.specs.Pixels.{pixel}
@@ -21,7 +22,7 @@ candidatePixel s a = pixel (codeFor s 0 a) (codeFor s 1 a) (codeFor s 2 a)
 
 -- no pixel has an ACES number beyond 2 ^ 38
 unfoldable pub inReach : ℤ → Bool
-inReach x = choose (leZ (negsuc (2 ^ 38 - 1)) x) (leZ x (pos (2 ^ 38))) false
+inReach x = choose (leZ (minus (2 ^ 38)) x) (leZ x (pos (2 ^ 38))) false
 
 unfoldable pub allInReach : Triple → Bool
-allInReach a = choose (inReach (a .red .0)) (choose (inReach (a .green .0)) (inReach (a .blue .0)) false) false
+allInReach a = allThree (inReach (a .red .0)) (inReach (a .green .0)) (inReach (a .blue .0))

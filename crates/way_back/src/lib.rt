@@ -2,10 +2,11 @@
 ghost use mathlib.Core.Path.{_≡_};
 ghost use Rattle.rules.specs.declared.Check.the-variants.{Passed};
 ghost use Rattle.rules.specs.declared.Found as found;
+ghost use Rattle.rules.specs.Choice.{allThree};
 ghost use Rattle.rules.specs.Result.{single};
 ghost use Rattle.rules.specs.Setting.{Valid};
 ghost use Rattle.rules.specs.Matrix.{matrixOf};
-ghost use Rattle.rules.specs.WayBack.{equal, equal3, tried, codesFound, foundCheck};
+ghost use Rattle.rules.specs.WayBack.{within, within3, tried, codesFound, foundCheck};
 ghost use Rattle.aces_inverse.specs.Given.{Given};
 ghost use Rattle.decode.specs.Decoded.{decoded};
 ghost use Rattle.decode.specs.Ready.{Ready};
@@ -23,8 +24,8 @@ use rules::Refusal;
 use rules::Setting;
 use rules::Triple;
 
-// 2^38: no pixel has an ACES number beyond it.
-const REACH: i64 = 274877906944;
+// No pixel has an ACES number beyond it.
+const REACH: i64 = 1 << 38;
 
 // What the way back over one record answers.
 pub enum Back {
@@ -39,40 +40,32 @@ fn in_reach(a: Aces) -> bool
     -REACH <= x && x <= REACH
 }
 
+fn all_three(a: bool, b: bool, c: bool) -> bool
+    ensures { λ r. ⌜ r ≡ allThree a b c ⌝ }
+{
+    a && b && c
+}
+
 fn all_in_reach(a: Triple) -> bool
     ensures { λ r. ⌜ r ≡ allInReach a ⌝ }
 {
-    if in_reach(a.red) {
-        if in_reach(a.green) {
-            in_reach(a.blue)
-        } else {
-            false
-        }
-    } else {
-        false
-    }
+    all_three(in_reach(a.red), in_reach(a.green), in_reach(a.blue))
 }
 
 fn same(a: Aces, b: Aces) -> bool
-    ensures { λ r. ⌜ r ≡ equal (a .0) (b .0) ⌝ }
+    ensures { λ r. ⌜ r ≡ within 0 (a .0) (b .0) ⌝ }
 {
-    let x = a.0;
-    let y = b.0;
-    x <= y && y <= x
+    a.0 == b.0
 }
 
 fn same_triple(a: Triple, b: Triple) -> bool
-    ensures { λ r. ⌜ r ≡ equal3 a b ⌝ }
+    ensures { λ r. ⌜ r ≡ within3 0 a b ⌝ }
 {
-    if same(a.red, b.red) {
-        if same(a.green, b.green) {
-            same(a.blue, b.blue)
-        } else {
-            false
-        }
-    } else {
-        false
-    }
+    all_three(
+        same(a.red, b.red),
+        same(a.green, b.green),
+        same(a.blue, b.blue),
+    )
 }
 
 // The only pixel that can give the numbers.
@@ -93,7 +86,7 @@ fn candidate(s: Setting, d: Decoder, t: &[u64; 128], a: Triple) -> Pixel
 fn try_pixel(s: Setting, d: Decoder, t: &[u64; 128], p: Pixel, a: Triple) -> Found
     requires { ⌜ Ready s d (now t) ⌝ }
     requires { ⌜ IsPixel s p ⌝ }
-    ensures { λ f. ⌜ f ≡ tried (decoded s) (matrixOf s) a p ⌝ }
+    ensures { λ f. ⌜ f ≡ tried 0 (decoded s) (matrixOf s) a p ⌝ }
 {
     if same_triple(a, aces::of_pixel(s, d, t, p)) {
         Found::Pixel(p)

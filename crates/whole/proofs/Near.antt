@@ -1,6 +1,6 @@
 -- Two integers at most b apart.
 -- Assumes nothing.
-use mathlib.Core.Path.{_≡_}
+use mathlib.Core.Path.{_≡_, subst}
 use Prim.Native.Nat.{ℕ, suc, _+_, _*_, _≤_, _<_}
 use native.Mathlib.Nat.{mul-le-mul-left, lt-of-mul-lt-mul-left}
 use native.Mathlib.Omega.{arith}
@@ -31,6 +31,9 @@ near-more h n = record { high = omega (arith, n .high); low = omega (arith, n .l
 
 pub near-same : {x y : ℤ} → Near x y 0 → x ≡ y
 near-same {x} {y} n = same x y (omega (arith, n .high, n .low))
+
+pub same-near : {x y : ℤ} → x ≡ y → Near x y 0
+same-near {x} e = subst (λ (y : ℤ). Near x y 0) e (record { high = omega arith; low = omega arith })
 
 pub near-add : {x y z w : ℤ} {b c : ℕ} → Near x y b → Near z w c → Near (x +ℤ z) (y +ℤ w) (b + c)
 near-add {x} {y} {z} {w} {b} {c} m n =

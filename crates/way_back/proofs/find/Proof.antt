@@ -1,13 +1,12 @@
 -- `find` meets its contract: nothing gives numbers out of reach, and the candidate is the only pixel that can give the others.
 -- Assumes nothing.
-use mathlib.Core.Path.{_≡_, sym, ap, _∙_, subst}
+use mathlib.Core.Path.{sym, ap, _∙_, subst}
 use borrow.Author.Needs.{needs}
-use Rattle.rules.specs.declared.Pixel.{Pixel}
 use Rattle.rules.specs.Matrix.{matrixOf}
-use Rattle.rules.specs.WayBack.{tried}
+use Rattle.rules.specs.WayBack.{tried, pixelBy}
 use Rattle.decode.specs.Decoded.{decoded}
 use Rattle.way_back.proofs.Reach.{reached-given}
-use Rattle.way_back.proofs.Only.{candidate-is-pixel, out-of-reach, trying-finds}
+use Rattle.way_back.proofs.Only.{exact-enough, candidate-is-pixel, out-of-reach, trying-finds}
 use Rattle.way_back.proofs.find.Statement.{statement}
 use Rattle.way_back.proofs.find.Tie as tie
 use Rattle.rules.specs.Pixels.{IsPixel}
@@ -18,19 +17,21 @@ candidate-requires c κs = let s = c .before .before in (s .pre, reached-given (
 try-pixel-requires : tie.Need-try-pixel-requires
 try-pixel-requires c κs =
     let s = c .before .before .before in
-    (s .pre, subst (IsPixel (s .args .s)) (sym (c .candidate .ensures)) (candidate-is-pixel (s .args .s) (s .pre .valid) (s .args .a)))
+    (s .pre, subst (IsPixel (s .args .s)) (sym (c .candidate .ensures)) (candidate-is-pixel (s .args .s) (s .args .a)))
 
 returns : tie.Need-returns
+unfolding pixelBy
 returns c =
     let s = c .before .before .before .before in
     c .try-pixel .ensures
-    ∙ ap (tried (decoded (s .args .s)) (matrixOf (s .args .s)) (s .args .a)) (c .before .candidate .ensures)
-    ∙ trying-finds (s .args .s) (s .pre .valid) (s .args .a)
+    ∙ ap (tried 0 (decoded (s .args .s)) (matrixOf (s .args .s)) (s .args .a)) (c .before .candidate .ensures)
+    ∙ trying-finds 0 exact-enough (s .args .s) (s .pre .valid) (s .args .a)
 
 returns-2 : tie.Need-returns-2
+unfolding pixelBy
 returns-2 c =
     let s = c .before .before in
-    out-of-reach (s .args .s) (s .pre .valid) (s .args .a) (sym (c .before .all-in-reach .ensures) ∙ c .if1 .left)
+    out-of-reach 0 exact-enough (s .args .s) (s .pre .valid) (s .args .a) (sym (c .before .all-in-reach .ensures) ∙ c .if1 .left)
 
 pub find-spec : {M : Type 1} → statement M
 find-spec = tie.close (tie.spec (λ c κs. search needs) candidate-requires try-pixel-requires returns returns-2)

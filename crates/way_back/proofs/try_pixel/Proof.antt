@@ -1,17 +1,15 @@
 -- `try_pixel` meets its contract.
 -- Assumes nothing.
-use mathlib.Core.Bool.{Bool}
 use mathlib.Core.Path.{_≡_, sym, ap, _∙_}
 use borrow.Author.Needs.{needs}
-use Rattle.rules.specs.declared.Triple.{Triple}
-use Rattle.rules.specs.WayBack.{equal3}
+use Rattle.rules.specs.WayBack.{within3}
 use Rattle.way_back.proofs.try_pixel.Statement.{statement}
 use Rattle.way_back.proofs.try_pixel.Tie as tie
 use Rattle.aces.specs.OfPixel.{pixelAces}
 
 -- what is compared
-compared : (c : tie.After-same-triple) → c .same-triple .result ≡ equal3 (c .before .before .args .a) (pixelAces (c .before .before .args .s) (c .before .before .args .p))
-compared c = c .same-triple .ensures ∙ ap (equal3 (c .before .before .args .a)) (c .before .of-pixel .ensures)
+compared : (c : tie.After-same-triple) → c .same-triple .result ≡ within3 0 (c .before .before .args .a) (pixelAces (c .before .before .args .s) (c .before .before .args .p))
+compared c = c .same-triple .ensures ∙ ap (within3 0 (c .before .before .args .a)) (c .before .of-pixel .ensures)
 
 returns : tie.Need-returns
 returns c = rw (sym (compared (c .before)) ∙ c .if1 .taken)
