@@ -1,19 +1,19 @@
 -- A row whose entries sum to the scale, nearly, keeps greys.
 -- Assumes nothing.
-use mathlib.Core.Bool.{Bool, true, false}
 use mathlib.Core.Path.{_≡_, refl, sym, ap, _∙_}
 use Prim.Native.Nat.{ℕ, _+_, _-_, _*_, _^_, _<_, _≤_}
 use native.Mathlib.Nat.{mul-le-mul-right}
 use native.Mathlib.Omega.{arith}
-use lib.Dec.{eqb, lit≤}
+use lib.Dec.{lit≤}
 use lib.IntN.{ℤ, pos, natAbs, _+ℤ_, _*ℤ_}
 use Rattle.whole.specs.Parts.{up, dn}
 use Rattle.whole.proofs.Reflect.{abs-is, at, add, mul, dif, eqZ}
 use Rattle.whole.proofs.Floor.{floor-only}
 use Rattle.rules.specs.declared.Setting.{Setting}
-use Rattle.rules.specs.Choice.{choose}
+use Rattle.rules.specs.Setting.{Valid}
 use Rattle.rules.specs.Fraction.{integer, whole, _/ℚ_, nearest}
-use Rattle.rules.specs.Matrix.{Matrix, logC3Matrix, logC4Matrix, matrixOf, entry, acesNumber, IsAces}
+use Rattle.rules.specs.Matrix.{Matrix, logC3Matrix, logC4Matrix, matrixFor, matrixOf, entry, acesNumber, IsAces}
+use Rattle.rules.proofs.Settings.{for-curve}
 use Rattle.row_product.specs.Row.{Number}
 use Rattle.row_product.proofs.Nearest.{nearest-of}
 
@@ -41,8 +41,8 @@ row-grey m i k t x e l h w =
     ∙ grey (m .scale) k t x l h w)
 
 -- GREYS STAY GREY: three equal scene numbers give three ACES numbers equal to them, whatever the setting
-pub greys-stay : (s : Setting) (x : ℤ) → Number x → IsAces (matrixOf s) x x x x x x
-greys-stay s x n = go (eqb (s .curve) 3)
+pub greys-stay : (s : Setting) → Valid s → (x : ℤ) → Number x → IsAces (matrixOf s) x x x x x x
+greys-stay s v x n = for-curve (λ c. IsAces (matrixFor c) x x x x x x) log-c3 log-c4 s v
   where
     near : 2 * (200 * natAbs x) < 10 ^ 18
     near = omega (arith, n .small)
@@ -50,14 +50,16 @@ greys-stay s x n = go (eqb (s .curve) 3)
     exact : 2 * (0 * natAbs x) < 10 ^ 6
     exact = omega arith
 
-    go : (b : Bool) → IsAces (choose b logC3Matrix logC4Matrix) x x x x x x
-    go true =
+    log-c3 : IsAces logC3Matrix x x x x x x
+    log-c3 =
         record {
           red-is = row-grey logC3Matrix 0 1000000 0 x refl (lit≤ tt) (lit≤ tt) exact;
           green-is = row-grey logC3Matrix 1 1000000 0 x refl (lit≤ tt) (lit≤ tt) exact;
           blue-is = row-grey logC3Matrix 2 1000000 0 x refl (lit≤ tt) (lit≤ tt) exact;
         }
-    go false =
+
+    log-c4 : IsAces logC4Matrix x x x x x x
+    log-c4 =
         record {
           red-is = row-grey logC4Matrix 0 1000000000000000180 200 x refl (lit≤ tt) (lit≤ tt) near;
           green-is = row-grey logC4Matrix 1 999999999999999818 200 x refl (lit≤ tt) (lit≤ tt) near;

@@ -16,8 +16,11 @@ use Rattle.whole.proofs.Tidy.{tidy}
 use Rattle.rules.specs.Fraction.{Fraction, ratio, whole, integer, _+ℚ_, _-ℚ_, _*ℚ_, _/ℚ_, nearest, Versus, Less, Greater}
 use Rattle.rules.specs.Exact.{Scale, VersusExact}
 use Rattle.rules.specs.Decoding.{unit, tolerance}
-use Rattle.rules.specs.Choice.{choose}
-use Rattle.rules.specs.Matrix.{Matrix, logC3Matrix, logC4Matrix, entry, acesNumber}
+use Rattle.rules.specs.declared.Setting.{Setting}
+use Rattle.rules.specs.Setting.{Valid}
+use Rattle.rules.proofs.Settings.{for-curve}
+use Rattle.whole.proofs.Tests.{each-of-three}
+use Rattle.rules.specs.Matrix.{Matrix, logC3Matrix, logC4Matrix, matrixFor, matrixOf, entry, acesNumber}
 use Rattle.rules.specs.ExactRow.{acesTolerance, Side, VersusRow, WithinRow}
 use Rattle.decode.proofs.Close.{Close}
 use Rattle.row_product.proofs.Nearest.{nearest-of}
@@ -167,15 +170,13 @@ module _ (N D P Q : ℕ) (m : Matrix) (i : ℕ) (light : 2 * N * weight m i * Q 
 abbrev Light : Matrix → (i : ℕ) → Type 0
 Light m i = 2 * tolerance .plus * weight m i * acesTolerance .over + tolerance .over * m .scale * acesTolerance .over < 2 * tolerance .over * acesTolerance .plus * m .scale
 
-matrix-light : (b : Bool) (i : ℕ) → i < 3 → Light (choose b logC3Matrix logC4Matrix) i
-matrix-light true zero h = lit< tt
-matrix-light true (suc zero) h = lit< tt
-matrix-light true (suc (suc zero)) h = lit< tt
-matrix-light false zero h = lit< tt
-matrix-light false (suc zero) h = lit< tt
-matrix-light false (suc (suc zero)) h = lit< tt
-matrix-light b (suc (suc (suc i))) h = absurd (omega arith)
+matrix-light : (s : Setting) → Valid s → (i : ℕ) → i < 3 → Light (matrixOf s) i
+matrix-light s v i h =
+    for-curve (λ c. Light (matrixFor c) i) (each-of-three (Light logC3Matrix) (lit< tt) (lit< tt) (lit< tt) i h)
+    (each-of-three (Light logC4Matrix) (lit< tt) (lit< tt) (lit< tt) i h)
+    s
+    v
 
-pub matrix-within : (b : Bool) (i : ℕ) → i < 3 → (k : Scale) (r g u : ℕ) (x y z : ℤ) → Close tolerance k r x → Close tolerance k g y → Close tolerance k u z
-    → WithinRow acesTolerance (choose b logC3Matrix logC4Matrix) i k r g u (acesNumber (choose b logC3Matrix logC4Matrix) i x y z)
-matrix-within b i h = row-within (tolerance .plus) (tolerance .over) (acesTolerance .plus) (acesTolerance .over) (choose b logC3Matrix logC4Matrix) i (matrix-light b i h)
+pub matrix-within : (s : Setting) → Valid s → (i : ℕ) → i < 3 → (k : Scale) (r g u : ℕ) (x y z : ℤ) → Close tolerance k r x → Close tolerance k g y → Close tolerance k u z
+    → WithinRow acesTolerance (matrixOf s) i k r g u (acesNumber (matrixOf s) i x y z)
+matrix-within s v i h = row-within (tolerance .plus) (tolerance .over) (acesTolerance .plus) (acesTolerance .over) (matrixOf s) i (matrix-light s v i h)

@@ -3,6 +3,7 @@ ghost use mathlib.Core.Path.{_≡_};
 ghost use Prim.Native.Nat.{_^_};
 ghost use Rattle.rules.specs.Fraction.{integer, whole, _/ℚ_, nearest};
 ghost use Rattle.rules.specs.Matrix.{logC3Matrix, logC4Matrix, matrixOf, IsAces};
+ghost use Rattle.rules.specs.Setting.{Valid};
 ghost use Rattle.rules.specs.Pixels.{IsPixel};
 ghost use Rattle.decode.specs.Ready.{Ready};
 ghost use Rattle.row_product.specs.Row.{Number, Sum};
@@ -13,10 +14,18 @@ mod entries;
 
 use decode::decoder::Decoder;
 use rules::Aces;
+use rules::CurveName;
 use rules::Pixel;
 use rules::Scene;
 use rules::Setting;
 use rules::Triple;
+
+// of no curve
+const NONE: Triple = Triple {
+    red: Aces(0),
+    green: Aces(0),
+    blue: Aces(0),
+};
 
 // A row product over 10^6, rounded once.
 fn over_million(p: i64) -> i64
@@ -74,15 +83,16 @@ fn aces_c4(x: Scene, y: Scene, z: Scene) -> Triple
 
 // The ACES numbers of three scene numbers.
 fn aces(s: Setting, x: Scene, y: Scene, z: Scene) -> Triple
+    requires { ⌜ Valid s ⌝ }
     requires { ⌜ Number (x .0) ⌝ }
     requires { ⌜ Number (y .0) ⌝ }
     requires { ⌜ Number (z .0) ⌝ }
     ensures { λ r. ⌜ IsAces (matrixOf s) (x .0) (y .0) (z .0) (r .red .0) (r .green .0) (r .blue .0) ⌝ }
 {
-    if s.curve == 3 {
-        aces_c3(x, y, z)
-    } else {
-        aces_c4(x, y, z)
+    match curves::name_of(s.curve) {
+        CurveName::LogC3 => aces_c3(x, y, z),
+        CurveName::LogC4 => aces_c4(x, y, z),
+        CurveName::Unknown => NONE,
     }
 }
 
@@ -92,8 +102,8 @@ pub fn of_pixel(s: Setting, d: Decoder, t: &[u64; 128], p: Pixel) -> Triple
     requires { ⌜ IsPixel s p ⌝ }
     ensures { λ a. ⌜ a ≡ pixelAces s p ⌝ }
 {
-    let x = d.scene(t, p.red);
-    let y = d.scene(t, p.green);
-    let z = d.scene(t, p.blue);
+    let x = decode::decoder::scene(s, d, t, p.red);
+    let y = decode::decoder::scene(s, d, t, p.green);
+    let z = decode::decoder::scene(s, d, t, p.blue);
     aces(s, x, y, z)
 }

@@ -1,13 +1,13 @@
 -- A matrix and its inverse: from three numbers at most e from the ACES numbers of three scene numbers the inverse leads to within 2 e + 1
 -- units of these.
 -- Assumes nothing.
-use mathlib.Core.Bool.{Bool, true, false}
+use mathlib.Core.Bool.{Bool}
 use mathlib.Core.List.{List, [], _∷_}
 use mathlib.Core.Path.{_≡_, refl, sym, subst}
 use Prim.Native.Nat.{ℕ, zero, suc, _+_, _-_, _*_, _^_, _<_, _≤_}
 use native.Mathlib.Nat.{mul-le-mul-right}
 use native.Mathlib.Omega.{arith}
-use lib.Dec.{T, leb, ltb, eqb, lit<, lit≤, leb→le, ltb→lt}
+use lib.Dec.{T, leb, ltb, lit<, lit≤, leb→le, ltb→lt}
 use lib.IntN.{ℤ, pos, natAbs, _-ℤ_, _*ℤ_}
 use Rattle.whole.specs.Parts.{up, dn}
 use Rattle.whole.proofs.Floor.{half-bounds}
@@ -15,16 +15,19 @@ use Rattle.whole.proofs.Reflect.{at, add, mul, eqZ}
 use Rattle.whole.proofs.Near.{Near, same-near, near-of, of-near, near-join, near-more, near-mul, near-cancel, near-test, abs-near, near-abs}
 use Rattle.rules.specs.declared.Setting.{Setting}
 use Rattle.rules.specs.declared.Triple.{Triple}
-use Rattle.rules.specs.Choice.{choose}
-use Rattle.rules.specs.Matrix.{Matrix, matrixOf, logC3Matrix, logC4Matrix, acesNumber, IsAces}
+use Rattle.rules.specs.declared.CurveName.{CurveName}
+use Rattle.rules.specs.declared.CurveName.the-variants.{LogC3, LogC4, Unknown}
+use Rattle.rules.specs.Setting.{named, Valid}
+use Rattle.rules.proofs.Settings.{for-curve}
+use Rattle.rules.specs.Matrix.{matrixFor, matrixOf, acesNumber, IsAces}
 use Rattle.rules.specs.Pixels.{triple}
 use Rattle.rules.proofs.Search.{NearTriple}
-use Rattle.whole.proofs.Tests.{every, nth, passes}
+use Rattle.whole.proofs.Tests.{every, nth, passes, each-of-three}
 use Rattle.row_product.specs.Row.{over}
 use Rattle.row_product.proofs.Nearest.{nearest-of}
 use Rattle.aces_inverse.specs.Given.{Small3, Given}
 use Rattle.aces_inverse.specs.Farthest.{farthest}
-use Rattle.aces_inverse.specs.Inverse.{logC3Inverse, logC4Inverse, inverseRows, candidate}
+use Rattle.aces_inverse.specs.Inverse.{inverseFor, inverseRows, candidate}
 use Rattle.aces_inverse.proofs.Dot.{Three, three, dot, weight, Near3, dot-near, rowAt, times, before, times-before, scaled, dot-scaled}
 
 -- ---- a rounded row, over a scale that is twice half
@@ -164,109 +167,102 @@ module _ (n m : List (List ℤ)) (half halfBack slack ρ most k : ℕ) (t : T (e
         (omega (arith, less e l, mul-le-mul-right (2 * half * e + half) light, mul-le-mul-right slack w))
 
 -- ---- the published matrices
-abbrev halfScale : Bool → ℕ
-halfScale b = choose b 500000 500000000000000000
+abbrev halfScale : CurveName → ℕ
+halfScale LogC3 = 500000
+halfScale LogC4 = 500000000000000000
+halfScale Unknown = 1
 
-abbrev inverses : Bool → List (List ℤ)
-inverses b = choose b logC3Inverse logC4Inverse
-
-abbrev matrices : Bool → Matrix
-matrices b = choose b logC3Matrix logC4Matrix
-
-abbrev slacks : Bool → ℕ
-slacks b = choose b 504333 414303605123416144
+abbrev slackOf : CurveName → ℕ
+slackOf LogC3 = 504333
+slackOf LogC4 = 414303605123416144
+slackOf Unknown = 0
 
 -- no row of a matrix weighs more than 1.21, and none of an inverse more than 2.032
-abbrev heavy : Bool → ℕ
-heavy b = choose b 1210000 1210000000000000000
+abbrev heavy : CurveName → ℕ
+heavy LogC3 = 1210000
+heavy LogC4 = 1210000000000000000
+heavy Unknown = 0
 
 abbrev heavyBack : ℕ
 heavyBack = 2234207627641
 
--- a test that is passed for each row of each matrix
-abbrev rowTests : (Bool → ℕ → Bool) → List Bool
-rowTests f = f true 0 ∷ f true 1 ∷ f true 2 ∷ f false 0 ∷ f false 1 ∷ f false 2 ∷ []
+-- the tests of a row, computed for each curve
+abbrev weightTest : CurveName → (k : ℕ) → Bool
+weightTest n k = leb (weight (rowAt (matrixFor n .rows) k)) (heavy n)
 
-each-row : (f : Bool → ℕ → Bool) → T (every (rowTests f)) → (b : Bool) (k : ℕ) → k < 3 → T (f b k)
-unfolding nth
-each-row f t true zero h = passes (rowTests f) t 0
-each-row f t true (suc zero) h = passes (rowTests f) t 1
-each-row f t true (suc (suc zero)) h = passes (rowTests f) t 2
-each-row f t false zero h = passes (rowTests f) t 3
-each-row f t false (suc zero) h = passes (rowTests f) t 4
-each-row f t false (suc (suc zero)) h = passes (rowTests f) t 5
-each-row f t b (suc (suc (suc k))) h = absurd (omega arith)
-
-weighs : (b : Bool) (k : ℕ) → k < 3 → T (leb (weight (rowAt (matrices b .rows) k)) (heavy b))
-weighs = each-row (λ b k. leb (weight (rowAt (matrices b .rows) k)) (heavy b)) tt
-
-takes-back : (b : Bool) (k : ℕ) → k < 3 → T (every (undoes (inverses b) (matrices b .rows) (halfScale b) (2 ^ 39) (slacks b) heavyBack farthest k))
-takes-back = each-row (λ b k. every (undoes (inverses b) (matrices b .rows) (halfScale b) (2 ^ 39) (slacks b) heavyBack farthest k)) tt
+abbrev backTest : CurveName → (k : ℕ) → Bool
+backTest n k = every (undoes (inverseFor n) (matrixFor n .rows) (halfScale n) (2 ^ 39) (slackOf n) heavyBack farthest k)
 
 -- ---- of a setting
 near-zero : {k : ℕ} {x y z : ℤ} → Small3 k x y z → Near3 (three x y z) (three (pos 0) (pos 0) (pos 0)) k
 near-zero h = record { red = abs-near (h .red); green = abs-near (h .green); blue = abs-near (h .blue) }
 
-positive : (b : Bool) → 0 < halfScale b
-positive true = lit< tt
-positive false = lit< tt
+positive : (c : CurveName) → 0 < halfScale c
+positive LogC3 = lit< tt
+positive LogC4 = lit< tt
+positive Unknown = lit< tt
 
--- of given ACES numbers a candidate may be encoded
-pub candidate-small : (s : Setting) (a b c : ℤ) → Given a b c → (k : ℕ) → k < 3 → natAbs (candidate s k a b c) ≤ 2 ^ 40
-candidate-small s a b c h k l =
-    row-size (inverseRows s) (2 ^ 39) (lit< tt) k heavyBack (2 ^ 38) (2 ^ 40) (three a b c)
-    (light (inverseRows s) (matrixOf s .rows) (halfScale (eqb (s .curve) 3)) (2 ^ 39) (slacks (eqb (s .curve) 3)) heavyBack farthest k (takes-back (eqb (s .curve) 3) k l))
-    (near-zero h) (lit< tt)
+module _ (s : Setting) (v : Valid s) where
+  abbrev c : CurveName
+  c = named (s .curve)
 
--- the matrix, with its scale
-same : (b : Bool) (i : ℕ) (x y z : ℤ) → acesNumber (matrices b) i x y z ≡ acesNumber (over (2 * halfScale b) (matrices b .rows)) i x y z
-same true i x y z = refl
-same false i x y z = refl
+  weighs : (k : ℕ) → k < 3 → T (leb (weight (rowAt (matrixOf s .rows) k)) (heavy c))
+  weighs k h = for-curve (λ n. T (weightTest n k)) (each-of-three (λ i. T (weightTest LogC3 i)) tt tt tt k h) (each-of-three (λ i. T (weightTest LogC4 i)) tt tt tt k h) s v
 
--- the ACES numbers of scene numbers up to 2 ^ 33 are at most 2 ^ 38, with room for a distance
-made-small : (b : Bool) (x y z : ℤ) → Small3 largest x y z → (k : ℕ) → k < 3 → natAbs (acesNumber (matrices b) k x y z) ≤ 2 ^ 38 - farthest
-made-small b x y z h k l =
-    rw (same b k x y z)
-    (row-size (matrices b .rows) (halfScale b) (positive b) k (heavy b) largest (2 ^ 38 - farthest) (three x y z) (leb→le (weight (rowAt (matrices b .rows) k)) (heavy b) (weighs b k l)) (near-zero h) (fits b))
-  where
-    fits : (b : Bool) → heavy b * largest + halfScale b < 2 * halfScale b * suc (2 ^ 38 - farthest)
-    fits true = lit< tt
-    fits false = lit< tt
+  takes-back : (k : ℕ) → k < 3 → T (every (undoes (inverseRows s) (matrixOf s .rows) (halfScale c) (2 ^ 39) (slackOf c) heavyBack farthest k))
+  takes-back k h = for-curve (λ n. T (backTest n k)) (each-of-three (λ i. T (backTest LogC3 i)) tt tt tt k h) (each-of-three (λ i. T (backTest LogC4 i)) tt tt tt k h) s v
 
--- numbers at most e from the ACES numbers of such scene numbers
-module _ (s : Setting) (x y z : ℤ) (h : Small3 largest x y z) (e : ℕ) (l : e ≤ farthest) (a : Triple)
-    (i : NearTriple a (triple (acesNumber (matrixOf s) 0 x y z) (acesNumber (matrixOf s) 1 x y z) (acesNumber (matrixOf s) 2 x y z)) e) where
-  abbrev three-is : Bool
-  three-is = eqb (s .curve) 3
+  -- of given ACES numbers a candidate may be encoded
+  pub candidate-small : (x y z : ℤ) → Given x y z → (k : ℕ) → k < 3 → natAbs (candidate s k x y z) ≤ 2 ^ 40
+  candidate-small x y z h k l =
+      row-size (inverseRows s) (2 ^ 39) (lit< tt) k heavyBack (2 ^ 38) (2 ^ 40) (three x y z)
+      (light (inverseRows s) (matrixOf s .rows) (halfScale c) (2 ^ 39) (slackOf c) heavyBack farthest k (takes-back k l))
+      (near-zero h) (lit< tt)
 
-  -- are numbers that the way back tries
-  pub near-aces-small : Given (a .red .0) (a .green .0) (a .blue .0)
-  near-aces-small =
-      record {
-        red = small (i .red) (made-small three-is x y z h 0 (lit< tt));
-        green = small (i .green) (made-small three-is x y z h 1 (lit< tt));
-        blue = small (i .blue) (made-small three-is x y z h 2 (lit< tt));
-      }
+  -- the matrix, with its scale
+  same : (i : ℕ) (x y z : ℤ) → acesNumber (matrixOf s) i x y z ≡ acesNumber (over (2 * halfScale c) (matrixOf s .rows)) i x y z
+  same i x y z = for-curve (λ n. acesNumber (matrixFor n) i x y z ≡ acesNumber (over (2 * halfScale n) (matrixFor n .rows)) i x y z) refl refl s v
+
+  -- the ACES numbers of scene numbers up to 2 ^ 33 are at most 2 ^ 38, with room for a distance
+  made-small : (x y z : ℤ) → Small3 largest x y z → (k : ℕ) → k < 3 → natAbs (acesNumber (matrixOf s) k x y z) ≤ 2 ^ 38 - farthest
+  made-small x y z h k l =
+      rw (same k x y z)
+      (row-size (matrixOf s .rows) (halfScale c) (positive c) k (heavy c) largest (2 ^ 38 - farthest) (three x y z) (leb→le (weight (rowAt (matrixOf s .rows) k)) (heavy c) (weighs k l)) (near-zero h) fits)
     where
-      small : {v w : ℤ} → Near v w e → natAbs w ≤ 2 ^ 38 - farthest → natAbs v ≤ 2 ^ 38
-      small n g = near-abs (near-more (omega arith) (near-join n (abs-near g)))
+      fits : heavy (named (s .curve)) * largest + halfScale (named (s .curve)) < 2 * halfScale (named (s .curve)) * suc (2 ^ 38 - farthest)
+      fits = for-curve (λ n. heavy n * largest + halfScale n < 2 * halfScale n * suc (2 ^ 38 - farthest)) (lit< tt) (lit< tt) s v
 
-  near-made : Near3 (three (a .red .0) (a .green .0) (a .blue .0)) (apply (matrices three-is .rows) (halfScale three-is) (positive three-is) (three x y z)) e
-  near-made =
-      record {
-        red = subst (λ (w : ℤ). Near (a .red .0) w e) (same three-is 0 x y z) (i .red);
-        green = subst (λ (w : ℤ). Near (a .green .0) w e) (same three-is 1 x y z) (i .green);
-        blue = subst (λ (w : ℤ). Near (a .blue .0) w e) (same three-is 2 x y z) (i .blue);
-      }
+  -- numbers at most e from the ACES numbers of such scene numbers
+  module _ (x y z : ℤ) (h : Small3 largest x y z) (e : ℕ) (l : e ≤ farthest) (a : Triple)
+      (i : NearTriple a (triple (acesNumber (matrixOf s) 0 x y z) (acesNumber (matrixOf s) 1 x y z) (acesNumber (matrixOf s) 2 x y z)) e) where
+    -- are numbers that the way back tries
+    pub near-aces-small : Given (a .red .0) (a .green .0) (a .blue .0)
+    near-aces-small =
+        record {
+          red = small (i .red) (made-small x y z h 0 (lit< tt));
+          green = small (i .green) (made-small x y z h 1 (lit< tt));
+          blue = small (i .blue) (made-small x y z h 2 (lit< tt));
+        }
+      where
+        small : {p q : ℤ} → Near p q e → natAbs q ≤ 2 ^ 38 - farthest → natAbs p ≤ 2 ^ 38
+        small n g = near-abs (near-more (omega arith) (near-join n (abs-near g)))
 
-  -- and lead to within 2 e + 1 units of the scene numbers
-  pub candidate-near : (k : ℕ) → k < 3 → Near (candidate s k (a .red .0) (a .green .0) (a .blue .0)) (channel (three x y z) k) (2 * e + 1)
-  candidate-near k g =
-      undone (inverseRows s) (matrices three-is .rows) (halfScale three-is) (2 ^ 39) (slacks three-is) heavyBack farthest k (takes-back three-is k g) (positive three-is) (lit< tt) (three x y z)
-      (omega (arith, h .red, h .green, h .blue)) e l (three (a .red .0) (a .green .0) (a .blue .0)) near-made
+    near-made : Near3 (three (a .red .0) (a .green .0) (a .blue .0)) (apply (matrixOf s .rows) (halfScale c) (positive c) (three x y z)) e
+    near-made =
+        record {
+          red = subst (λ (w : ℤ). Near (a .red .0) w e) (same 0 x y z) (i .red);
+          green = subst (λ (w : ℤ). Near (a .green .0) w e) (same 1 x y z) (i .green);
+          blue = subst (λ (w : ℤ). Near (a .blue .0) w e) (same 2 x y z) (i .blue);
+        }
 
--- at distance 0
-pub aces-small : (s : Setting) (x y z : ℤ) → Small3 largest x y z → {a b c : ℤ} → IsAces (matrixOf s) x y z a b c → Given a b c
-aces-small s x y z h {a} {b} {c} i =
-    near-aces-small s x y z h 0 (lit≤ tt) (triple a b c)
-    (record { red = same-near (i .red-is); green = same-near (i .green-is); blue = same-near (i .blue-is) })
+    -- and lead to within 2 e + 1 units of the scene numbers
+    pub candidate-near : (k : ℕ) → k < 3 → Near (candidate s k (a .red .0) (a .green .0) (a .blue .0)) (channel (three x y z) k) (2 * e + 1)
+    candidate-near k g =
+        undone (inverseRows s) (matrixOf s .rows) (halfScale c) (2 ^ 39) (slackOf c) heavyBack farthest k (takes-back k g) (positive c) (lit< tt) (three x y z)
+        (omega (arith, h .red, h .green, h .blue)) e l (three (a .red .0) (a .green .0) (a .blue .0)) near-made
+
+  -- at distance 0
+  pub aces-small : (x y z : ℤ) → Small3 largest x y z → {p q r : ℤ} → IsAces (matrixOf s) x y z p q r → Given p q r
+  aces-small x y z h {p} {q} {r} i =
+      near-aces-small x y z h 0 (lit≤ tt) (triple p q r)
+      (record { red = same-near (i .red-is); green = same-near (i .green-is); blue = same-near (i .blue-is) })

@@ -3,10 +3,11 @@
 -- Assumes nothing.
 use mathlib.Core.List.{List, [], _∷_, map}
 use Prim.Native.Nat.{ℕ, _^_}
-use lib.Dec.{eqb}
 use lib.IntN.{ℤ, pos, _+ℤ_, _*ℤ_}
 use Rattle.rules.specs.declared.Setting.{Setting}
-use Rattle.rules.specs.Choice.{choose}
+use Rattle.rules.specs.declared.CurveName.{CurveName}
+use Rattle.rules.specs.declared.CurveName.the-variants.{LogC3, LogC4, Unknown}
+use Rattle.rules.specs.Setting.{named}
 use Rattle.rules.specs.Matrix.{Matrix, minus, acesNumber, IsAces}
 use Rattle.row_product.specs.Row.{over}
 use Rattle.row_product.specs.Digits.{upper, lower}
@@ -25,8 +26,13 @@ logC3Inverse =
     ∷ (minus 11556925031 ∷ pos 66887523426 ∷ pos 1044181029382 ∷ [])
     ∷ []
 
+abbrev pub inverseFor : CurveName → List (List ℤ)
+inverseFor LogC3 = logC3Inverse
+inverseFor LogC4 = logC4Inverse
+inverseFor Unknown = []
+
 abbrev pub inverseRows : Setting → List (List ℤ)
-inverseRows s = choose (eqb (s .curve) 3) logC3Inverse logC4Inverse
+inverseRows s = inverseFor (named (s .curve))
 
 -- their digits to the base 2 ^ 21
 abbrev pub highRows : Setting → List (List ℤ)

@@ -14,7 +14,15 @@ const BACK_4: [[i64; 3]; 3] = [
 ];
 
 // Their entries by two digits to the base 2^21. A digit has the sign of its entry.
-pub const P21: i64 = 2097152;
+pub const P21: i64 = 1 << 21;
+
+// What is left of 2^40 over that base, and half of it.
+pub const REST: i64 = 1 << 19;
+
+pub const HALF: i64 = 1 << 18;
+
+// of no curve
+pub const NONE: [[i64; 3]; 3] = [[0; 3]; 3];
 
 pub const BACK_3_HIGH: [[i64; 3]; 3] = [
     [BACK_3[0][0] / P21, BACK_3[0][1] / P21, BACK_3[0][2] / P21],

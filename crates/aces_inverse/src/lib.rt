@@ -2,12 +2,14 @@
 ghost use mathlib.Core.Path.{_≡_};
 ghost use Prim.Native.Nat.{_^_};
 ghost use Rattle.rules.specs.Fraction.{integer, whole, _/ℚ_, nearest};
+ghost use Rattle.rules.specs.Setting.{Valid};
 ghost use Rattle.row_product.specs.Row.{Sum};
 ghost use Rattle.aces_inverse.specs.Given.{Given};
 ghost use Rattle.aces_inverse.specs.Inverse.{lowRows, highRows, pair, IsCandidate};
 
 mod entries;
 
+use rules::CurveName;
 use rules::Scene;
 use rules::Setting;
 use rules::Triple;
@@ -21,22 +23,24 @@ pub struct Scenes {
 
 // The digits of the inverse of a setting's matrix.
 fn high_of(s: Setting) -> [[i64; 3]; 3]
+    requires { ⌜ Valid s ⌝ }
     ensures { λ m. ⌜ m ≡ highRows s ⌝ }
 {
-    if s.curve == 3 {
-        entries::BACK_3_HIGH
-    } else {
-        entries::BACK_4_HIGH
+    match curves::name_of(s.curve) {
+        CurveName::LogC3 => entries::BACK_3_HIGH,
+        CurveName::LogC4 => entries::BACK_4_HIGH,
+        CurveName::Unknown => entries::NONE,
     }
 }
 
 fn low_of(s: Setting) -> [[i64; 3]; 3]
+    requires { ⌜ Valid s ⌝ }
     ensures { λ m. ⌜ m ≡ lowRows s ⌝ }
 {
-    if s.curve == 3 {
-        entries::BACK_3_LOW
-    } else {
-        entries::BACK_4_LOW
+    match curves::name_of(s.curve) {
+        CurveName::LogC3 => entries::BACK_3_LOW,
+        CurveName::LogC4 => entries::BACK_4_LOW,
+        CurveName::Unknown => entries::NONE,
     }
 }
 
@@ -47,11 +51,12 @@ fn over_binary(l: i64, h: i64) -> i64
     ensures { λ r. ⌜ r ≡ nearest (integer (pair h l) /ℚ whole (2 ^ 40)) ⌝ }
 {
     let carry = whole::floor_div(l, entries::P21);
-    whole::floor_div(h + carry + 262144, 524288)
+    whole::floor_div(h + carry + entries::HALF, entries::REST)
 }
 
 // The scene numbers that a way back tries for three ACES numbers.
 pub fn candidate(s: Setting, a: Triple) -> Scenes
+    requires { ⌜ Valid s ⌝ }
     requires { ⌜ Given (a .red .0) (a .green .0) (a .blue .0) ⌝ }
     ensures { λ r. ⌜ IsCandidate s (a .red .0) (a .green .0) (a .blue .0) (r .red .0) (r .green .0) (r .blue .0) ⌝ }
 {

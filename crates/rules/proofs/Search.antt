@@ -19,10 +19,12 @@ use Rattle.rules.specs.declared.Triple.{Triple}
 use Rattle.rules.specs.declared.Found.{Found}
 use Rattle.rules.specs.declared.Found as found
 use Rattle.rules.specs.Choice.{choose}
-use Rattle.rules.specs.Setting.{topOf}
+use Rattle.rules.specs.Setting.{codeAt, stepOf, lastOf, codeCheck}
 use Rattle.rules.specs.Matrix.{Matrix, matrixOf, acesNumber}
 use Rattle.rules.specs.WayBack.{within, within3, orElse, firstFound, tried, pixelWith, pixelBy}
 use Rattle.rules.specs.Pixels.{pixel, triple, acesOf, acesBy}
+use Rattle.rules.specs.declared.Check.the-variants.{Passed}
+use Rattle.rules.proofs.Codes.{code-of-step, code-passed, code-passes}
 
 -- ---- numbers at most e apart
 yes : (b : Bool) → T b → b ≡ true
@@ -139,12 +141,12 @@ pub record IsCode (code : ℕ → ℕ) (last n : ℕ) : Type 0 where
   pub in-range : step ≤ last
   pub code-is : code step ≡ n
 
--- where each step is its own code
-pub own-code : {last n : ℕ} → n ≤ last → IsCode (λ i. i) last n
-own-code {last} {n} h = record { step = n; in-range = h; code-is = refl }
+-- of a setting: the codes that pass their check
+pub own-code : (s : Setting) (n : ℕ) → codeCheck s n ≡ Passed → IsCode (codeAt s) (lastOf s) n
+own-code s n e = record { step = stepOf s n; in-range = code-passed s n e; code-is = code-of-step s n e }
 
-pub code-in-range : {last n : ℕ} → IsCode (λ i. i) last n → n ≤ last
-code-in-range {last} c = subst (λ (n : ℕ). n ≤ last) (c .code-is) (c .in-range)
+pub code-checked : (s : Setting) (n : ℕ) → IsCode (codeAt s) (lastOf s) n → codeCheck s n ≡ Passed
+code-checked s n c = subst (λ (n : ℕ). codeCheck s n ≡ Passed) (c .code-is) (code-passes s (c .step) (c .in-range))
 
 module _ (e : ℕ) (number : ℕ → ℤ) (m : Matrix) (code : ℕ → ℕ) (last : ℕ) (a : Triple) where
   -- codes that give numbers at most e from those given
@@ -219,7 +221,7 @@ module _ (e : ℕ) (number : ℕ → ℤ) (m : Matrix) (code : ℕ → ℕ) (las
 -- THE EXACT WAY BACK finds a pixel with exactly that triple, whatever numbers the codes have
 pub exact-found : (number : Setting → ℕ → ℤ) (s : Setting) (a : Triple) (p : Pixel) → pixelBy number s a ≡ found.Found.Pixel p → acesBy number s p ≡ a
 unfolding pixelBy
-exact-found number s a p f = sym (triple-same (found-gives 0 (number s) (matrixOf s) (λ i. i) (topOf (s .width)) a p f .numbers))
+exact-found number s a p f = sym (triple-same (found-gives 0 (number s) (matrixOf s) (codeAt s) (lastOf s) a p f .numbers))
 
 -- ---- numbers that agree on the codes give the same ACES numbers, and the same pixel is found
 pub same-aces : (number other : ℕ → ℤ) (m : Matrix) (p : Pixel) → number (p .red .0) ≡ other (p .red .0) → number (p .green .0) ≡ other (p .green .0) → number (p .blue .0) ≡ other (p .blue .0)

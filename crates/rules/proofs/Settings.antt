@@ -96,6 +96,15 @@ has-name n e = subst (HasName n) e (go (eqb n 3) (eqb n 4) refl refl)
 pub valid-named : {A : Type 0} (s : Setting) → Valid s → named (s .curve) ≡ Unknown → A
 valid-named s v e = absurd (subst T (has-name (s .curve) e) (members s v .curve))
 
+-- a fact of each curve is one of a valid setting's
+pub for-curve : (P : CurveName → Type 0) → P LogC3 → P LogC4 → (s : Setting) → Valid s → P (named (s .curve))
+for-curve P a b s v = go (named (s .curve)) (members s v .curve)
+  where
+    go : (c : CurveName) → T (known c) → P c
+    go LogC3 t = a
+    go LogC4 t = b
+    go Unknown t = absurd t
+
 -- ---- every setting there is passes the test
 abbrev pub curves : List ℕ
 curves = 3 ∷ 4 ∷ []

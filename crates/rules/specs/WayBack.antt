@@ -14,7 +14,7 @@ use Rattle.rules.specs.declared.Triple.{Triple}
 use Rattle.rules.specs.declared.Found.{Found}
 use Rattle.rules.specs.declared.Found as found
 use Rattle.rules.specs.Choice.{choose, allThree}
-use Rattle.rules.specs.Setting.{topOf}
+use Rattle.rules.specs.Setting.{codeAt, lastOf}
 use Rattle.rules.specs.Matrix.{Matrix, matrixOf}
 use Rattle.rules.specs.Pixels.{pixel, codes, acesOf}
 
@@ -44,9 +44,9 @@ unfoldable pub pixelWith : (e : ℕ) → (number : ℕ → ℤ) → Matrix → (
 pixelWith e number m code last a = firstFound (λ r. firstFound (λ g. firstFound (λ b. tried e number m a (pixel (code r) (code g) (code b))) last) last) last
 
 -- "The way back takes any three signed numbers and returns the pixel of that setting with exactly that ACES triple": at distance 0. Its
--- codes are 0 to the top code, and have these numbers
+-- codes have these numbers
 unfoldable pub pixelBy : (number : Setting → ℕ → ℤ) → Setting → Triple → Found
-pixelBy number s a = pixelWith 0 (number s) (matrixOf s) (λ i. i) (topOf (s .width)) a
+pixelBy number s a = pixelWith 0 (number s) (matrixOf s) (codeAt s) (lastOf s) a
 
 -- the codes of what is found
 abbrev pub codesFound : Found → List ℕ

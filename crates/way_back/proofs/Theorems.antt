@@ -7,10 +7,9 @@ use Rattle.rules.specs.declared.Setting.{Setting}
 use Rattle.rules.specs.declared.Triple.{Triple}
 use Rattle.rules.specs.declared.Found.{Found}
 use Rattle.rules.specs.declared.Found as found
-use Rattle.rules.specs.Setting.{topOf, Valid}
+use Rattle.rules.specs.Setting.{codeAt, lastOf, Valid}
 use Rattle.rules.specs.Matrix.{matrixOf}
 use Rattle.rules.proofs.Search as search
-use Rattle.rules.proofs.Settings.{code-passed, code-passes}
 use Rattle.decode.specs.Decoded.{decoded}
 use Rattle.way_back.specs.Back.{pixelFor}
 use Rattle.way_back.proofs.Only.{PixelGives, exact-enough, only-candidate}
@@ -21,9 +20,9 @@ use Rattle.aces.specs.OfPixel.{pixelAces}
 to-gives : (s : Setting) (a : Triple) (p : Pixel) → IsPixel s p → pixelAces s p ≡ a → PixelGives 0 s a p
 to-gives s a p i e =
     record {
-      red = search.own-code (code-passed s (p .red .0) (i .red));
-      green = search.own-code (code-passed s (p .green .0) (i .green));
-      blue = search.own-code (code-passed s (p .blue .0) (i .blue));
+      red = search.own-code s (p .red .0) (i .red);
+      green = search.own-code s (p .green .0) (i .green);
+      blue = search.own-code s (p .blue .0) (i .blue);
       numbers = search.same-triple (sym e);
     }
 
@@ -31,11 +30,11 @@ to-gives s a p i e =
 pub found-gives : (s : Setting) (a : Triple) (p : Pixel) → pixelFor s a ≡ found.Found.Pixel p → IsPixel s p × (pixelAces s p ≡ a)
 unfolding pixelBy
 found-gives s a p e =
-    let g = search.found-gives 0 (decoded s) (matrixOf s) (λ i. i) (topOf (s .width)) a p e in (
+    let g = search.found-gives 0 (decoded s) (matrixOf s) (codeAt s) (lastOf s) a p e in (
       record {
-        red = code-passes s (p .red .0) (search.code-in-range (g .red));
-        green = code-passes s (p .green .0) (search.code-in-range (g .green));
-        blue = code-passes s (p .blue .0) (search.code-in-range (g .blue));
+        red = search.code-checked s (p .red .0) (g .red);
+        green = search.code-checked s (p .green .0) (g .green);
+        blue = search.code-checked s (p .blue .0) (g .blue);
       },
       search.exact-found decoded s a p e,
     )
@@ -44,14 +43,14 @@ module _ (s : Setting) (v : Valid s) where
   -- two pixels with the same ACES numbers are one
   pub one-pixel : (p q : Pixel) → IsPixel s p → IsPixel s q → pixelAces s p ≡ pixelAces s q → p ≡ q
   one-pixel p q i j e =
-      only-candidate 0 exact-enough s v (pixelAces s q) p (to-gives s (pixelAces s q) p i e) ∙ sym (only-candidate 0 exact-enough s v (pixelAces s q) q (to-gives s (pixelAces s q) q j refl))
+      only-candidate 0 s v (exact-enough s v) (pixelAces s q) p (to-gives s (pixelAces s q) p i e) ∙ sym (only-candidate 0 s v (exact-enough s v) (pixelAces s q) q (to-gives s (pixelAces s q) q j refl))
 
   -- a pixel is found from its own ACES numbers
   pub own-found : (p : Pixel) → IsPixel s p → pixelFor s (pixelAces s p) ≡ found.Found.Pixel p
   unfolding pixelBy
   own-found p i =
-      search.gives-found 0 (decoded s) (matrixOf s) (λ i. i) (topOf (s .width)) (pixelAces s p) p
-      (λ q g. only-candidate 0 exact-enough s v (pixelAces s p) q g ∙ sym (only-candidate 0 exact-enough s v (pixelAces s p) p (to-gives s (pixelAces s p) p i refl)))
+      search.gives-found 0 (decoded s) (matrixOf s) (codeAt s) (lastOf s) (pixelAces s p) p
+      (λ q g. only-candidate 0 s v (exact-enough s v) (pixelAces s p) q g ∙ sym (only-candidate 0 s v (exact-enough s v) (pixelAces s p) p (to-gives s (pixelAces s p) p i refl)))
       (to-gives s (pixelAces s p) p i refl)
 
   -- nothing is found exactly where no pixel gives the numbers

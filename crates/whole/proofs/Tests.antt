@@ -1,8 +1,9 @@
--- Tests that are computed: two joined, and a list of them, of which each passes where the whole does.
+-- Tests that are computed: two joined, and a list of them, of which each passes where the whole does. A fact of three numbers.
 -- Assumes nothing.
 use mathlib.Core.Bool.{Bool, true, false}
 use mathlib.Core.List.{List, [], _∷_}
-use Prim.Native.Nat.{ℕ, zero, suc}
+use Prim.Native.Nat.{ℕ, zero, suc, _<_}
+use native.Mathlib.Omega.{arith}
 use lib.Dec.{T}
 
 abbrev pub both : Bool → Bool → Bool
@@ -32,3 +33,10 @@ unfolding nth
 passes [] h k = tt
 passes (x ∷ xs) h zero = both-left x (every xs) h
 passes (x ∷ xs) h (suc k) = passes xs (both-right x (every xs) h) k
+
+-- of 0, 1 and 2
+pub each-of-three : (P : ℕ → Type 0) → P 0 → P 1 → P 2 → (i : ℕ) → i < 3 → P i
+each-of-three P a b c zero h = a
+each-of-three P a b c (suc zero) h = b
+each-of-three P a b c (suc (suc zero)) h = c
+each-of-three P a b c (suc (suc (suc i))) h = absurd (omega arith)

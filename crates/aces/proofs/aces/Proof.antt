@@ -1,22 +1,32 @@
 -- `aces` meets its contract: the setting's curve decides.
 -- Assumes nothing.
-use borrow.Author.Tests.{ne-eqb}
+use mathlib.Core.Path.{sym, _∙_}
+use borrow.Author.Needs.{needs}
+use Rattle.rules.proofs.Settings.{valid-named}
 use Rattle.aces.proofs.aces.Statement.{statement}
 use Rattle.aces.proofs.aces.Tie as tie
 
-aces-c3-requires : tie.Need-aces-c3-requires
-aces-c3-requires c κs = c .before .before .pre
-
-aces-c4-requires : tie.Need-aces-c4-requires
-aces-c4-requires c κs = c .before .before .pre
-
 returns : tie.Need-returns
-returns c = rw (c .before .if1 .taken) (c .aces-c3 .ensures)
+returns c = let told = c .before in rw (sym (told .before .before .name-of .ensures) ∙ told .enum-told .given .1) (c .aces-c3 .ensures)
 
 returns-2 : tie.Need-returns-2
-returns-2 c =
+returns-2 c = let told = c .before in rw (sym (told .before .before .name-of .ensures) ∙ told .enum-told2 .given .1) (c .aces-c4 .ensures)
+
+returns-3 : tie.Need-returns-3
+returns-3 c =
     let s = c .before .before .before in
-    rw (ne-eqb (s .args .s .curve) 3 (c .before .if1 .left)) (c .aces-c4 .ensures)
+    valid-named (s .args .s) (s .pre .0) (sym (c .before .before .name-of .ensures) ∙ c .enum-told3 .given .1)
 
 pub aces-spec : {M : Type 1} → statement M
-aces-spec = tie.close (tie.spec aces-c3-requires aces-c4-requires returns returns-2)
+aces-spec =
+    tie.close
+    (tie.spec
+    (λ c κs. search needs)
+    (λ c. search needs)
+    (λ c κs. search needs)
+    (λ c. search needs)
+    (λ c κs. search needs)
+    (λ c. search needs)
+    returns
+    returns-2
+    returns-3)

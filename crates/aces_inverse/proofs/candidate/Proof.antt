@@ -18,23 +18,23 @@ use Rattle.aces_inverse.proofs.candidate.Tie as tie
 -- the numbers
 module _ (s : tie.Start) where
   red-number : Number (s .args .a .red .0)
-  red-number = record { small = omega (arith, s .pre .red) }
+  red-number = record { small = omega (arith, s .pre .1 .red) }
 
   green-number : Number (s .args .a .green .0)
-  green-number = record { small = omega (arith, s .pre .green) }
+  green-number = record { small = omega (arith, s .pre .1 .green) }
 
   blue-number : Number (s .args .a .blue .0)
-  blue-number = record { small = omega (arith, s .pre .blue) }
+  blue-number = record { small = omega (arith, s .pre .1 .blue) }
 
 products-requires : tie.Need-products-requires
 products-requires c κs =
     let s = c .before .before .before .before in
-    rw (read-back (number-fits (red-number s)), read-back (number-fits (green-number s)), read-back (number-fits (blue-number s))) (subst SmallRows (sym (c .low-of .ensures)) (low-small (s .args .s)), (red-number s, (green-number s, blue-number s)))
+    rw (read-back (number-fits (red-number s)), read-back (number-fits (green-number s)), read-back (number-fits (blue-number s))) (subst SmallRows (sym (c .low-of .ensures)) (low-small (s .args .s) (s .pre .0)), (red-number s, (green-number s, blue-number s)))
 
 products-requires-2 : tie.Need-products-requires-2
 products-requires-2 c κs =
     let s = c .before .before .before .before .before .before in
-    rw (read-back (number-fits (red-number s)), read-back (number-fits (green-number s)), read-back (number-fits (blue-number s))) (subst SmallRows (sym (c .high-of .ensures)) (high-small (s .args .s)), (red-number s, (green-number s, blue-number s)))
+    rw (read-back (number-fits (red-number s)), read-back (number-fits (green-number s)), read-back (number-fits (blue-number s))) (subst SmallRows (sym (c .high-of .ensures)) (high-small (s .args .s) (s .pre .0)), (red-number s, (green-number s, blue-number s)))
 
 -- the products, as they are read
 module _ (c : tie.After-products2) where
@@ -43,12 +43,12 @@ module _ (c : tie.After-products2) where
 
   low : let a = c .before .before .before .before .before .before .before .args in let r = c .before .before .products .result in Read (lowRows (a .s)) (a .a .red .0) (a .a .green .0) (a .a .blue .0) (r .red) (r .green) (r .blue)
   low =
-      read-products (lowRows (s .args .s)) (s .args .a .red .0) (s .args .a .green .0) (s .args .a .blue .0) (low-small (s .args .s)) (red-number s) (green-number s) (blue-number s)
+      read-products (lowRows (s .args .s)) (s .args .a .red .0) (s .args .a .green .0) (s .args .a .blue .0) (low-small (s .args .s) (s .pre .0)) (red-number s) (green-number s) (blue-number s)
       (rw (read-back (number-fits (red-number s)), read-back (number-fits (green-number s)), read-back (number-fits (blue-number s)), c .before .before .before .low-of .ensures) at (c .before .before .products .ensures))
 
   high : let a = c .before .before .before .before .before .before .before .args in let r = c .products2 .result in Read (highRows (a .s)) (a .a .red .0) (a .a .green .0) (a .a .blue .0) (r .red) (r .green) (r .blue)
   high =
-      read-products (highRows (s .args .s)) (s .args .a .red .0) (s .args .a .green .0) (s .args .a .blue .0) (high-small (s .args .s)) (red-number s) (green-number s) (blue-number s)
+      read-products (highRows (s .args .s)) (s .args .a .red .0) (s .args .a .green .0) (s .args .a .blue .0) (high-small (s .args .s) (s .pre .0)) (red-number s) (green-number s) (blue-number s)
       (rw (read-back (number-fits (red-number s)), read-back (number-fits (green-number s)), read-back (number-fits (blue-number s)), c .before .high-of .ensures) at (c .products2 .ensures))
 
 over-binary-requires : tie.Need-over-binary-requires
@@ -69,11 +69,12 @@ returns c =
     let g = c .before .before .before in
     let r = g .before .before .before in
     let k = r .before .before .before in
-    let a = k .before .before .before .before .before .before .before .args in
+    let start = k .before .before .before .before .before .before .before in
+    let a = start .args in
     record {
-      red-is = read-back (record { sfits = r .over-binary .ok }) ∙ (rw (low k .red, high k .red) at (r .over-binary .ensures)) ∙ ap over (pair-is (a .s) 0 (lit< tt) (a .a .red .0) (a .a .green .0) (a .a .blue .0));
-      green-is = read-back (record { sfits = g .over-binary2 .ok }) ∙ (rw (low k .green, high k .green) at (g .over-binary2 .ensures)) ∙ ap over (pair-is (a .s) 1 (lit< tt) (a .a .red .0) (a .a .green .0) (a .a .blue .0));
-      blue-is = read-back (record { sfits = c .over-binary3 .ok }) ∙ (rw (low k .blue, high k .blue) at (c .over-binary3 .ensures)) ∙ ap over (pair-is (a .s) 2 (lit< tt) (a .a .red .0) (a .a .green .0) (a .a .blue .0));
+      red-is = read-back (record { sfits = r .over-binary .ok }) ∙ (rw (low k .red, high k .red) at (r .over-binary .ensures)) ∙ ap over (pair-is (a .s) (start .pre .0) 0 (lit< tt) (a .a .red .0) (a .a .green .0) (a .a .blue .0));
+      green-is = read-back (record { sfits = g .over-binary2 .ok }) ∙ (rw (low k .green, high k .green) at (g .over-binary2 .ensures)) ∙ ap over (pair-is (a .s) (start .pre .0) 1 (lit< tt) (a .a .red .0) (a .a .green .0) (a .a .blue .0));
+      blue-is = read-back (record { sfits = c .over-binary3 .ok }) ∙ (rw (low k .blue, high k .blue) at (c .over-binary3 .ensures)) ∙ ap over (pair-is (a .s) (start .pre .0) 2 (lit< tt) (a .a .red .0) (a .a .green .0) (a .a .blue .0));
     }
 
 pub candidate-spec : {M : Type 1} → statement M

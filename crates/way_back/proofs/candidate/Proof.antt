@@ -7,6 +7,7 @@ use lib.Dec.{lit<}
 use lib.IntN.{ℤ}
 use Rattle.rules.specs.declared.Check.the-variants.{Passed}
 use Rattle.rules.specs.declared.Setting.{Setting}
+use Rattle.rules.specs.Setting.{Valid}
 use Rattle.rules.specs.Encoding.{sceneCheck}
 use Rattle.rules.proofs.Between.{scene-passes}
 use Rattle.encode.specs.Encoded.{encoded}
@@ -16,17 +17,17 @@ use Rattle.aces_inverse.proofs.Inverse.{candidate-small}
 use Rattle.way_back.proofs.candidate.Statement.{statement}
 use Rattle.way_back.proofs.candidate.Tie as tie
 
-passes : (s : Setting) {a b c x : ℤ} → Given a b c → (k : ℕ) → k < 3 → x ≡ candidate s k a b c → sceneCheck x ≡ Passed
-passes s {a} {b} {c} g k h e = ap sceneCheck e ∙ scene-passes (candidate s k a b c) (candidate-small s a b c g k h)
+passes : (s : Setting) → Valid s → {a b c x : ℤ} → Given a b c → (k : ℕ) → k < 3 → x ≡ candidate s k a b c → sceneCheck x ≡ Passed
+passes s v {a} {b} {c} g k h e = ap sceneCheck e ∙ scene-passes (candidate s k a b c) (candidate-small s v a b c g k h)
 
 code-of-requires : tie.Need-code-of-requires
-code-of-requires c κs = let s = c .before in (s .pre .0, passes (s .args .s) (s .pre .1) 0 (lit< tt) (c .candidate .ensures .red-is))
+code-of-requires c κs = let s = c .before in (s .pre .0, passes (s .args .s) (s .pre .0 .valid) (s .pre .1) 0 (lit< tt) (c .candidate .ensures .red-is))
 
 code-of-requires-2 : tie.Need-code-of-requires-2
-code-of-requires-2 c κs = let s = c .before .before in (s .pre .0, passes (s .args .s) (s .pre .1) 1 (lit< tt) (c .before .candidate .ensures .green-is))
+code-of-requires-2 c κs = let s = c .before .before in (s .pre .0, passes (s .args .s) (s .pre .0 .valid) (s .pre .1) 1 (lit< tt) (c .before .candidate .ensures .green-is))
 
 code-of-requires-3 : tie.Need-code-of-requires-3
-code-of-requires-3 c κs = let s = c .before .before .before in (s .pre .0, passes (s .args .s) (s .pre .1) 2 (lit< tt) (c .before .before .candidate .ensures .blue-is))
+code-of-requires-3 c κs = let s = c .before .before .before in (s .pre .0, passes (s .args .s) (s .pre .0 .valid) (s .pre .1) 2 (lit< tt) (c .before .before .candidate .ensures .blue-is))
 
 returns : tie.Need-returns
 returns c =
