@@ -10,7 +10,7 @@ use Rattle.rules.specs.declared.Pixel.{Pixel}
 use Rattle.rules.specs.declared.Setting.{Setting}
 use Rattle.rules.specs.Refusal.{then}
 use Rattle.rules.specs.Setting.{codeCheck, Valid}
-use Rattle.rules.proofs.Settings.{both, code-passed}
+use Rattle.rules.proofs.Settings.{both}
 use Rattle.decode.specs.Decoded.{decoded}
 use Rattle.decode.proofs.Distance.{decoded-small}
 use Rattle.rules.specs.Pixels.{IsPixel, codesCheck}
@@ -23,4 +23,4 @@ is-pixel s p e =
 
 -- a decoded number may be a float
 pub decoded-fits : (s : Setting) → Valid s → (n : ℕ) → codeCheck s n ≡ Passed → natAbs (decoded s n) ≤ 2 ^ 40
-decoded-fits s v n e = le-trans (decoded-small s v n (code-passed s n e)) (lit≤ tt)
+decoded-fits s v n e = le-trans (decoded-small s v n e) (lit≤ tt)

@@ -41,7 +41,7 @@ fn float_at(s: Setting, d: Decoder, t: &[u64; 128], n: Code) -> f64
     requires { ⌜ codeCheck s (n .0) ≡ Passed ⌝ }
     ensures { λ x. ⌜ x ≡ floatOf (decoded s (n .0)) ⌝ }
 {
-    float_unit::float_of(d.scene(t, n))
+    float_unit::float_of(decode::decoder::scene(s, d, t, n))
 }
 
 fn floats_of(s: Setting, d: Decoder, t: &[u64; 128], p: Pixel) -> FloatPixel

@@ -13,7 +13,7 @@ use Rattle.rules.specs.Result.{Result, done, single}
 use Rattle.rules.specs.Setting.{settingCheck, codeCheck, Valid}
 use Rattle.rules.specs.Float.{floatCheck, unitsOf, floatOf}
 use Rattle.rules.proofs.Results.{zero-passed}
-use Rattle.rules.proofs.Settings.{both, code-passed}
+use Rattle.rules.proofs.Settings.{both}
 use Rattle.decode.specs.Decoded.{decoded}
 use Rattle.encode.specs.Encoded.{encoded}
 use Rattle.encode.proofs.Theorems.{encode-decoded}
@@ -36,7 +36,7 @@ module _ (s : Setting) (v : Valid s) (n : ℕ) (h : codeCheck s n ≡ Passed) wh
   own-passes = check-is (floatOf (decoded s n)) (Reading.Scene (record { 0 = decoded s n })) own
 
   own-code : encoded s (unitsOf (floatOf (decoded s n))) ≡ n
-  own-code = ap (encoded s) (scene-is (floatOf (decoded s n)) (record { 0 = decoded s n }) own) ∙ encode-decoded s v n (code-passed s n h)
+  own-code = ap (encoded s) (scene-is (floatOf (decoded s n)) (record { 0 = decoded s n }) own) ∙ encode-decoded s v n h
 
 -- the floats of a pixel of a valid setting encode to it
 pub floats-encode : (s : Setting) → Valid s → (p : Pixel) → IsPixel s p → encodePixelResult s (floatPixel s p) ≡ done (codes p)

@@ -16,12 +16,14 @@ use Rattle.whole.proofs.Near.{near-test}
 use Rattle.whole.proofs.Tidy.{tidy}
 use Rattle.rules.specs.Fraction.{Fraction, whole, ratio, integer, _+ℚ_, _-ℚ_, _*ℚ_, VersusPower, nearest, Less, Greater}
 use Rattle.rules.specs.declared.Setting.{Setting}
-use Rattle.rules.specs.Setting.{settingCheck, curveOf, topOf, Valid}
+use Rattle.rules.specs.Setting.{settingCheck, codesOf, curveOf, lastOf, codeAt, stepOf, codeCheck, Valid}
 use Rattle.rules.specs.Curve.{logC4, exponent, toeValue}
 use Rattle.rules.specs.Exact.{Scale, signal, scaleOf, powerFor, VersusPart}
-use Rattle.rules.specs.Decoding.{Decodes, DecodesPart, tolerance, unit}
-use Rattle.rules.specs.Encoding.{IsNearest, sceneCheck}
+use Rattle.rules.specs.Decoding.{Decodes, DecodesCode, DecodesPart, tolerance, unit}
+use Rattle.rules.specs.Encoding.{IsNearest, numberAt, sceneCheck}
 use Rattle.rules.specs.Float.{valueOf, floatCheck, unitsOf}
+use Rattle.rules.specs.declared.Check.the-variants.{Passed}
+use Rattle.rules.proofs.Codes.{code-passes, code-rises}
 use Rattle.rules.proofs.Values as values
 use Rattle.rules.proofs.Search.{near-within3, none-found}
 use Rattle.rules.specs.Matrix.{minus, matrixOf, acesNumber}
@@ -32,7 +34,7 @@ use Rattle.rules.specs.WayBack.{within3, pixelBy, foundCheck}
 use Rattle.rules.specs.Strip.{answerOf}
 use Rattle.decode.specs.Decoded.{decoded}
 use Rattle.decode.proofs.Distance.{decodes-rises, decodes-small}
-use Rattle.decode.proofs.Theorems.{decoding}
+use Rattle.decode.proofs.Theorems.{decoding, gap-large}
 use Rattle.encode.proofs.Theorems.{encode-near}
 use Rattle.aces_inverse.specs.Inverse.{candidate}
 use Rattle.way_back.specs.Candidate.{codeFor, candidatePixel}
@@ -41,7 +43,7 @@ use Rattle.marked.specs.Marked.{Marked, setting, Allowed, limit, nextTri
 use Rattle.rules.specs.Pixels.{pixel, acesOf}
 
 abbrev curve4 : Scale
-curve4 = scaleOf (setting 4 12 0)
+curve4 = record { curve = logC4; last = 4095 }
 
 -- the exponent of code 4095 is 20
 abbrev exponent-4095 : Fraction
@@ -77,44 +79,58 @@ code-4095 = VersusPart.power (values.of-whole values.equal 2 (lit< tt) (powerFor
 abbrev s800 : Setting
 s800 = setting 3 12 800
 
+abbrev scale800 : Scale
+scale800 = record { curve = curveOf s800; last = 4095 }
+
 -- the number of a code in the toe
-toe-number : (n : ℕ) (y : ℤ) → DecodesPart tolerance (scaleOf s800) n y true → y ≡ nearest (toeValue (curveOf s800) (signal (scaleOf s800) (whole n)) *ℚ whole (2 ^ 24))
+toe-number : (n : ℕ) (y : ℤ) → DecodesPart tolerance scale800 n y true → y ≡ nearest (toeValue (curveOf s800) (signal scale800 (whole n)) *ℚ whole (2 ^ 24))
 toe-number n y (DecodesPart.toe e) = e
 
 -- ---- scene 2^40
--- of a number that is not below the top code's no other code is nearer than the top
-scene-limit : (s : Setting) → Valid s → (number : ℕ → ℤ) → Allowed s number → (n : ℕ) → IsNearest number (topOf (s .width)) (pos limit) n → n ≡ topOf (s .width)
-scene-limit s v number allowed n i = go (ltb n top) refl
+-- of a number that is not below the last step's no other step is nearer than the last
+scene-limit : (s : Setting) → Valid s → (number : ℕ → ℤ) → Allowed s number → (i : ℕ) → IsNearest (numberAt (λ s. number) s) (lastOf s) (pos limit) i → i ≡ lastOf s
+scene-limit s v number allowed i near = go (ltb i (lastOf s)) refl
   where
-    top : ℕ
-    top = topOf (s .width)
+    at-step : ℕ → ℤ
+    at-step j = number (codeAt s j)
+
+    decodes : (j : ℕ) → j ≤ lastOf s → DecodesCode s (codeAt s j) (at-step j)
+    decodes j h = allowed (codeAt s j) (code-passes s j h)
 
     farther : (x y : ℤ) → x <ℤ y → natAbs y ≤ 2 ^ 33 → natAbs (pos limit -ℤ x) ≤ natAbs (pos limit -ℤ y) → ⊥
     farther x y h g l =
         omega (arith, ltN-of (at x) (at y) h, abs-is y, abs-is (pos limit -ℤ x), abs-is (pos limit -ℤ y), dif (sub (at (pos limit)) (at x)), dif (sub (at (pos limit)) (at y)), one-zero (pos limit -ℤ y))
 
-    go : (x : Bool) → ltb n top ≡ x → n ≡ top
+    go : (x : Bool) → ltb i (lastOf s) ≡ x → i ≡ lastOf s
     go true e =
         absurd
-        (farther (number n) (number top)
-        (decodes-rises s v n top (ltb-true n top e) (le-refl top) (number n) (number top) (allowed n (i .in-range)) (allowed top (le-refl top)))
-        (decodes-small s v top (le-refl top) (number top) (allowed top (le-refl top)))
-        (i .nearest top (le-refl top)))
-    go false e = le-antisymm (i .in-range) (ltb-false n top e)
+        (farther (at-step i) (at-step (lastOf s))
+        (decodes-rises s v (codeAt s i) (codeAt s (lastOf s)) (code-passes s i (near .in-range)) (code-passes s (lastOf s) (le-refl (lastOf s))) (code-rises s i (lastOf s) (ltb-true i (lastOf s) e)) (at-step i) (at-step (lastOf s)) (decodes i (near .in-range)) (decodes (lastOf s) (le-refl (lastOf s))))
+        (decodes-small s v (codeAt s (lastOf s)) (code-passes s (lastOf s) (le-refl (lastOf s))) (at-step (lastOf s)) (decodes (lastOf s) (le-refl (lastOf s))))
+        (near .nearest (lastOf s) (le-refl (lastOf s))))
+    go false e = le-antisymm (near .in-range) (ltb-false i (lastOf s) e)
 
 -- ---- the triple next to that of pixel 0, 0, 0
 valid-800 : Valid s800
 unfolding settingCheck
 valid-800 = refl
 
+passes-0 : codeCheck s800 0 ≡ Passed
+unfolding codesOf
+passes-0 = refl
+
+number-0 : (y : ℤ) → DecodesCode s800 0 y → y ≡ minus 290085
+unfolding codesOf
+number-0 y d = toe-number 0 y d
+
 decoded-0 : decoded s800 0 ≡ minus 290085
-decoded-0 = toe-number 0 (decoded s800 0) (decoding s800 valid-800 0 (lit≤ tt))
+decoded-0 = number-0 (decoded s800 0) (decoding s800 valid-800 0 passes-0)
 
 -- a candidate near the number of code 0
-near-0 : (i : ℕ) → T (leb (natAbs (candidate s800 i (nextTriple .red .0) (nextTriple .green .0) (nextTriple .blue .0) -ℤ minus 290085)) 13) → codeFor s800 i nextTriple ≡ 0
+near-0 : (i : ℕ) → T (leb (natAbs (candidate s800 i (nextTriple .red .0) (nextTriple .green .0) (nextTriple .blue .0) -ℤ minus 290085)) 1) → codeFor s800 i nextTriple ≡ 0
 near-0 i t =
     let c = candidate s800 i (nextTriple .red .0) (nextTriple .green .0) (nextTriple .blue .0) in
-    encode-near s800 valid-800 c 0 (lit≤ tt) (rw decoded-0 (near-test c (minus 290085) 13 t))
+    encode-near s800 valid-800 1 (gap-large s800 valid-800) c 0 passes-0 (rw decoded-0 (near-test c (minus 290085) 1 t))
 
 first-pixel : candidatePixel s800 nextTriple ≡ pixel 0 0 0
 unfolding acesNumber
@@ -128,22 +144,22 @@ module _ (number : ℕ → ℤ) (allowed : Allowed s800 number) where
   -- it gives another triple
   first-gives : within3 0 nextTriple (acesOf number (matrixOf s800) (pixel 0 0 0)) ≡ false
   unfolding acesNumber within3
-  first-gives = rw (toe-number 0 (number 0) (allowed 0 (lit≤ tt)))
+  first-gives = rw (number-0 (number 0) (allowed 0 passes-0))
 
   -- and no other pixel can give this one
   never : (q : Pixel) → GivesBy 0 number s800 nextTriple q → ⊥
   never q g =
-      let e : q ≡ pixel 0 0 0 = only-candidate-by s800 valid-800 number allowed 0 exact-enough nextTriple q g ∙ first-pixel in
+      let e : q ≡ pixel 0 0 0 = only-candidate-by s800 valid-800 number allowed 0 (exact-enough s800 valid-800) nextTriple q g ∙ first-pixel in
       let f : within3 0 nextTriple (acesOf number (matrixOf s800) q) ≡ true = near-within3 0 nextTriple (acesOf number (matrixOf s800) q) (g .numbers) in
       absurd (subst T (sym f ∙ ap (λ (p : Pixel). within3 0 nextTriple (acesOf number (matrixOf s800) p)) e ∙ first-gives) tt)
 
   no-pixel : numberOfCheck (foundCheck (pixelBy (λ s. number) s800 nextTriple)) ≡ 10
   unfolding pixelBy
-  no-pixel = ap (λ (f : Found). numberOfCheck (foundCheck f)) (none-found 0 number (matrixOf s800) (λ i. i) (topOf 12) nextTriple never)
+  no-pixel = ap (λ (f : Found). numberOfCheck (foundCheck f)) (none-found 0 number (matrixOf s800) (codeAt s800) (lastOf s800) nextTriple never)
 
 -- THE LIST
 pub marked : Marked
-unfolding settingCheck sceneCheck floatCheck unitsOf valueOf acesNumber answerOf
+unfolding settingCheck codesOf sceneCheck floatCheck unitsOf valueOf acesNumber answerOf
 marked =
     record {
       code-4095 = code-4095;

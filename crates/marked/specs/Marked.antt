@@ -16,10 +16,10 @@ use Rattle.rules.specs.declared.Triple.{Triple}
 use Rattle.rules.specs.Fraction.{ratio, whole}
 use Rattle.rules.specs.Refusal.{then, numberOf, numberOfCheck}
 use Rattle.rules.specs.Curve.{inToe}
-use Rattle.rules.specs.Setting.{settingCheck, codeCheck, curveOf, topOf, Valid}
+use Rattle.rules.specs.Setting.{settingCheck, codeCheck, curveOf, lastOf, stepOf, Valid}
 use Rattle.rules.specs.Exact.{signal, scaleOf, VersusExact}
-use Rattle.rules.specs.Decoding.{Decodes}
-use Rattle.rules.specs.Encoding.{IsNearest, sceneCheck}
+use Rattle.rules.specs.Decoding.{DecodesCode}
+use Rattle.rules.specs.Encoding.{IsNearest, numberAt, sceneCheck}
 use Rattle.rules.specs.Float.{floatCheck, unitsOf}
 use Rattle.rules.specs.Matrix.{minus, matrixOf, IsAces}
 use Rattle.rules.specs.WayBack.{pixelBy, foundCheck}
@@ -32,7 +32,7 @@ setting curve width ei = record { curve = curve; width = width; ei = ei }
 
 -- numbers for the codes of a setting: any that the rules allow, since they leave the power part's last unit free
 abbrev pub Allowed : Setting → (number : ℕ → ℤ) → Type 0
-Allowed s number = (n : ℕ) → n ≤ topOf (s .width) → Decodes (scaleOf s) n (number n)
+Allowed s number = (n : ℕ) → codeCheck s n ≡ Passed → DecodesCode s n (number n)
 
 -- the highest scene number to encode
 abbrev pub limit : ℕ
@@ -44,19 +44,19 @@ nextTriple = triple (minus 290085) (minus 290085) (minus 290084)
 
 pub record Marked : Type 0 where
   -- "curve 4, width 12, code 4095 is exactly 2349/5,
-  pub code-4095 : VersusExact (λ m n. m ≡ n) (scaleOf (setting 4 12 0)) (whole 4095) (ratio 2349 5)
+  pub code-4095 : VersusExact (λ m n. m ≡ n) (scaleOf (setting 4 12 0)) (whole (stepOf (setting 4 12 0) 4095)) (ratio 2349 5)
   -- so 7,881,936,076 or 7,881,936,077."
-  pub code-4095-units : (y : ℤ) → Decodes (scaleOf (setting 4 12 0)) 4095 y → (y ≡ pos 7881936076) ⊎ (y ≡ pos 7881936077)
+  pub code-4095-units : (y : ℤ) → DecodesCode (setting 4 12 0) 4095 y → (y ≡ pos 7881936076) ⊎ (y ≡ pos 7881936077)
   -- "Curve 3, EI 800, width 12: code 0 is -290,085;
-  pub code-0 : (y : ℤ) → Decodes (scaleOf (setting 3 12 800)) 0 y → y ≡ minus 290085
+  pub code-0 : (y : ℤ) → DecodesCode (setting 3 12 800) 0 y → y ≡ minus 290085
   -- code 100 is -213,758;
-  pub code-100 : (y : ℤ) → Decodes (scaleOf (setting 3 12 800)) 100 y → y ≡ minus 213758
+  pub code-100 : (y : ℤ) → DecodesCode (setting 3 12 800) 100 y → y ≡ minus 213758
   -- pixel 100, 0, 0 as listed;" (its ACES numbers are -238167 -283566 -289928)
-  pub pixel-100 : (x y : ℤ) → Decodes (scaleOf (setting 3 12 800)) 100 x → Decodes (scaleOf (setting 3 12 800)) 0 y
+  pub pixel-100 : (x y : ℤ) → DecodesCode (setting 3 12 800) 100 x → DecodesCode (setting 3 12 800) 0 y
       → IsAces (matrixOf (setting 3 12 800)) x y y (minus 238167) (minus 283566) (minus 289928)
   -- "code 612 is toe, 613 power."
-  pub code-612 : inToe (curveOf (setting 3 12 800)) (signal (scaleOf (setting 3 12 800)) (whole 612)) ≡ true
-  pub code-613 : inToe (curveOf (setting 3 12 800)) (signal (scaleOf (setting 3 12 800)) (whole 613)) ≡ false
+  pub code-612 : inToe (curveOf (setting 3 12 800)) (signal (scaleOf (setting 3 12 800)) (whole (stepOf (setting 3 12 800) 612))) ≡ true
+  pub code-613 : inToe (curveOf (setting 3 12 800)) (signal (scaleOf (setting 3 12 800)) (whole (stepOf (setting 3 12 800) 613))) ≡ false
   -- "Curve 4, width 12, EI 800: 5."
   pub ei-800 : numberOfCheck (settingCheck (setting 4 12 800)) ≡ 5
   -- "Curve 3, width 12, EI 2000: 5."
@@ -70,7 +70,7 @@ pub record Marked : Type 0 where
       → (answerOf (pixelToScene number) input output ≡ Refused PartialRecord 0) × (answerOf (pixelToAces number) input output ≡ Refused PartialRecord 0)
   -- "Scene 2^40 gives top, one more gives 7." (of every setting)
   pub scene-limit : (s : Setting) → Valid s → (number : ℕ → ℤ) → Allowed s number
-      → (n : ℕ) → IsNearest number (topOf (s .width)) (pos limit) n → n ≡ topOf (s .width)
+      → (i : ℕ) → IsNearest (numberAt (λ s. number) s) (lastOf s) (pos limit) i → i ≡ lastOf s
   pub scene-limit-passes : sceneCheck (pos limit) ≡ Passed
   pub scene-past-limit : numberOfCheck (sceneCheck (pos (limit + 1))) ≡ 7
   -- "ACES -290085, -290085, -290084 under curve 3, width 12, EI 800: 10."

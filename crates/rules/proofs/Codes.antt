@@ -32,10 +32,14 @@ pub code-passes : (s : Setting) (i : ℕ) → i ≤ lastOf s → codeCheck s (co
 unfolding codesOf
 code-passes s i h = rw (le-leb (codeAt s i) (codeAt s (lastOf s)) (omega arith))
 
--- a later code has a later step
+-- a later code has a later step, and the other way round
 pub step-rises : (s : Setting) (m n : ℕ) → codeCheck s m ≡ Passed → codeCheck s n ≡ Passed → m < n → stepOf s m < stepOf s n
 unfolding codesOf
 step-rises s m n p q h = omega arith
+
+pub code-rises : (s : Setting) (i j : ℕ) → i < j → codeAt s i < codeAt s j
+unfolding codesOf
+code-rises s i j h = omega arith
 
 -- ---- of a valid setting: a code fits two bytes, and so does a step
 top-small : (s : Setting) → Valid s → codeAt s (lastOf s) < 2 ^ 16
