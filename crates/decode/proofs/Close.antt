@@ -22,7 +22,8 @@ use Rattle.rules.specs.Decoding.{unit, tolerance, DecodesPart}
 use Rattle.curve_table.specs.Table.{tableOf}
 use Rattle.decode.specs.Decoded.{decoded}
 use Rattle.decode.proofs.Tests.{HasToe}
-use Rattle.decode.proofs.Settings.{gapOf, passed}
+use Rattle.decode.specs.Gap.{gapOf}
+use Rattle.decode.proofs.Settings.{passed}
 use Rattle.decode.proofs.Theorems.{decoding}
 
 -- y is less than e units from the exact value at a step

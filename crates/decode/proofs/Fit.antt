@@ -23,7 +23,8 @@ use Rattle.curve_table.specs.Table.{tableOf}
 use Rattle.decode.specs.Decoded.{product, Fits, decoderOf, firstOf, toeOf, overOf, decodedBy, decoded, raw}
 use Rattle.decode.proofs.Tests.{Source, Tested, HasToe, below-at, bias}
 use Rattle.decode.proofs.Program.{raw-small, number-fits}
-use Rattle.decode.proofs.Settings.{gapOf, passed}
+use Rattle.decode.specs.Gap.{gapOf}
+use Rattle.decode.proofs.Settings.{passed}
 
 -- the upper half of a product of two words, and of one of them with a word below m
 half : (m : ℕ) {x y : ℕ} → 0 < m → x < 2 ^ 64 → y < m → x * y / 2 ^ 64 < m

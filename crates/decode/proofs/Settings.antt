@@ -1,25 +1,20 @@
 -- Every valid setting passes the tests.
 -- Assumes nothing.
 use mathlib.Core.Bool.{Bool}
-use Prim.Native.Nat.{ℕ}
 use lib.Dec.{T}
 use Rattle.rules.specs.declared.Setting.{Setting}
-use Rattle.rules.specs.Setting.{named, codesOf, Valid}
+use Rattle.rules.specs.Setting.{codesOf, Valid}
 use Rattle.rules.specs.Exact.{scaleOf}
 use Rattle.rules.proofs.Settings.{forSettings, for-valid}
 use Rattle.curves.specs.LogC3.{rowOf}
-use Rattle.curves.specs.Gap as curve
 use Rattle.curve_table.specs.Table.{seedOf, ratioOf, shiftOf, logC3Table, logC4Table, tableOf}
+use Rattle.decode.specs.Gap.{gapOf}
 use Rattle.decode.specs.Decoded.{rawBy}
 use Rattle.whole.proofs.Tests.{every}
 use Rattle.decode.proofs.Tests.{Source, tests, Tested, tested}
 
 abbrev pub sourceOf : Setting → Source
 sourceOf s = record { front = seedOf s .front; first = seedOf s .first; ratio = ratioOf (s .width) (seedOf s); shift = shiftOf (s .width) }
-
--- how far apart the numbers of a setting's steps are at least
-abbrev pub gapOf : Setting → ℕ
-gapOf s = curve.gapOf (named (s .curve))
 
 abbrev test : Setting → Bool
 test s = every (tests (scaleOf s) (gapOf s) (tableOf s) (sourceOf s))

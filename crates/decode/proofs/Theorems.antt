@@ -19,7 +19,8 @@ use Rattle.curve_table.specs.Table.{tableOf}
 use Rattle.decode.specs.Decoded.{offset, raw, decodedAt, decoded}
 use Rattle.decode.proofs.Near.{room}
 use Rattle.decode.proofs.Right.{within, rises}
-use Rattle.decode.proofs.Settings.{sourceOf, gapOf, passed}
+use Rattle.decode.specs.Gap.{gapOf}
+use Rattle.decode.proofs.Settings.{sourceOf, passed}
 
 -- "In the toe the scene number is the exact value times 2^24, to the nearest whole number, a half going up (towards plus). In the power
 -- part it is a whole number less than .. away from the exact value times 2^24.": of a step, and of a code that passes its check

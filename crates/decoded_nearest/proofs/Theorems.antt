@@ -15,7 +15,8 @@ use Rattle.curve_table.specs.Table.{tableOf}
 use Rattle.decode.specs.Decoded.{decoded}
 use Rattle.decode.proofs.Distance.{numbers-near}
 use Rattle.decode.proofs.Right.{within}
-use Rattle.decode.proofs.Settings.{sourceOf, gapOf, passed}
+use Rattle.decode.specs.Gap.{gapOf}
+use Rattle.decode.proofs.Settings.{sourceOf, passed}
 use Rattle.decoded_margins.proofs.Margins.{room-for-half}
 use Rattle.decoded_margins.proofs.Settings.{margins}
 use Rattle.decoded_nearest.specs.Nearest.{half, Nearest, NearestNumbers}

@@ -21,7 +21,7 @@ use Rattle.rules.proofs.Closest.{closest-is-nearest, nearest-only}
 use Rattle.rules.proofs.Codes.{step-of-code, last-small}
 use Rattle.curve_table.specs.Table.{tableOf}
 use Rattle.decode.specs.Decoded.{decoderOf, raw, decodedAt, decoded}
-use Rattle.decode.proofs.Settings.{gapOf}
+use Rattle.decode.specs.Gap.{gapOf}
 use Rattle.decode.proofs.Fit.{fits}
 use Rattle.decode.proofs.Theorems.{raw-rises, raw-apart}
 use Rattle.encode.specs.Encoded.{encoded, encodedStep}

@@ -20,7 +20,8 @@ use Rattle.rules.proofs.Closest as closest
 use Rattle.rules.proofs.Codes.{code-of-step, code-passed, code-passes}
 use Rattle.curve_table.specs.Table.{tableOf}
 use Rattle.decode.specs.Decoded.{offset, raw, decodedAt, decoded}
-use Rattle.decode.proofs.Settings.{sourceOf, gapOf, passed}
+use Rattle.decode.specs.Gap.{gapOf}
+use Rattle.decode.proofs.Settings.{sourceOf, passed}
 use Rattle.decode.proofs.Theorems.{raw-rises, raw-apart}
 use Rattle.encode.specs.Encoded.{encoded, encodedStep}
 use Rattle.encode.proofs.Midpoints.{Within, own-within, first-within, last-within, near-within, nearest-within}

@@ -20,7 +20,7 @@ use Rattle.rules.specs.WayBack.{within3, tried, pixelWith, foundCheck}
 use Rattle.rules.proofs.Settings.{for-valid, refused-never}
 use Rattle.rules.proofs.Search as search
 use Rattle.decode.specs.Decoded.{decoded}
-use Rattle.decode.proofs.Settings.{gapOf}
+use Rattle.decode.specs.Gap.{gapOf}
 use Rattle.decode.proofs.Distance.{decodes-near, decodes-small}
 use Rattle.decode.proofs.Theorems.{decoding}
 use Rattle.encode.proofs.Theorems.{encoded-passes, encode-near}
