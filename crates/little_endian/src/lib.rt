@@ -4,6 +4,11 @@ ghost use Prim.Native.Nat.{_+_, _<_};
 ghost use lib.ListN.{length, take, drop};
 ghost use Rattle.rules.specs.Record.{value, digits, toBits, ofBits};
 
+// The bytes of a code, and of a signed number.
+pub const CODE_BYTES: usize = 2;
+
+pub const NUMBER_BYTES: usize = 8;
+
 fn wide(x: u8) -> u16
     ensures { λ r. ⌜ (r ≡ x) × (r < 256) ⌝ }
 {

@@ -28,11 +28,12 @@ use Rattle.record_conversion.specs.Conversions.{sceneBits, codeBits, pixelToSce
 use Rattle.record_conversion.proofs.Good.{Good}
 use Rattle.record_conversion.proofs.Channelwise.{setting-valid, channel-passes, setting-copied, channel-written}
 use Rattle.record_conversion.proofs.SceneBits.{scene-fits, scene-read}
+use Rattle.strip_passes.proofs.Cut.{length-at}
 use Rattle.strip.proofs.First.{all-done}
 use Rattle.strip.proofs.Back.{whole-done}
 use Rattle.promise.specs.Words.{Accepted}
 use Rattle.promise.specs.Scenes.{HoldsScene, AcceptedScenes, EachChannel, IsDecoded, DecodedRecord, IsEncoded, EncodedRecord, ConvertedEach}
-use Rattle.promise.proofs.Strips.{written-at, length-at, bytes-at, accepted-good}
+use Rattle.promise.proofs.Strips.{written-at, bytes-at, accepted-good}
 use Rattle.rules.specs.Conversions.{channelChecks, channelwise, numberCheck}
 
 -- ---- any conversion channel by channel: what is written for a channel that passes fits, and is R to the channel

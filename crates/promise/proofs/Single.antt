@@ -33,8 +33,10 @@ use Rattle.aces_inverse.proofs.Inverse.{aces-small}
 use Rattle.decode.proofs.Distance.{decoded-small}
 use Rattle.way_back.specs.Back.{pixelFor}
 use Rattle.way_back.proofs.Theorems.{found-gives, own-found, one-pixel}
+use Rattle.record_conversion.specs.declared.Kind.the-variants.{PixelToAces, AcesToPixel}
 use Rattle.record_conversion.specs.Conversions.{pixelToAces, acesToPixel}
 use Rattle.record_conversion.proofs.Channels.{codes-pixel}
+use Rattle.record_conversion.proofs.EveryKind.{kind-valid}
 use Rattle.record_conversion.proofs.Good.{Good}
 use Rattle.promise.specs.Words.{given, HoldsPixel, Without, OnlyPixel, refusalOf}
 use Rattle.rules.specs.Pixels.{IsPixel}
@@ -120,7 +122,7 @@ module _ (r : List ℕ) (h : IsBytes r) (l : length r ≡ 28) where
   record-given p e = ap (acesRecord s) e ∙ record-read r h l
 
   passed-valid : recordCheck acesToPixel r ≡ Passed → Valid s × (foundCheck (pixelFor s (tripleIn r)) ≡ Passed)
-  passed-valid e = both (settingCheck s) (foundCheck (pixelFor s (tripleIn r))) e
+  passed-valid e = let b = both (acesToPixel .setting s) (acesToPixel .inner r) e in (kind-valid AcesToPixel s (b .0), b .1)
 
   -- THE RECORD PASSES: it comes back as the only pixel that gives it
   pub passed-only : recordCheck acesToPixel r ≡ Passed → OnlyPixel r (acesToPixel .bytes r)
@@ -176,8 +178,8 @@ module _ (r : List ℕ) (g : Good pixelToAces r) where
   abbrev setting : Setting
   setting = settingOf r
 
-  checked : (settingCheck setting ≡ Passed) × (channelChecks codeBytes (codeCheck setting) r ≡ Passed)
-  checked = both (settingCheck setting) (channelChecks codeBytes (codeCheck setting) r) (g .passes)
+  checked : Valid setting × (channelChecks codeBytes (codeCheck setting) r ≡ Passed)
+  checked = let b = both (pixelToAces .setting setting) (pixelToAces .inner r) (g .passes) in (kind-valid PixelToAces setting (b .0), b .1)
 
   pixel : IsPixel setting (pixelIn r)
   pixel = codes-pixel setting r (checked .1)

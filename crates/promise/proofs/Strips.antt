@@ -17,7 +17,7 @@ use Rattle.rules.specs.Strip.{Conversion, recordCheck, records, recordAt, writt
 use Rattle.rules.proofs.Records.{take-bytes, drop-bytes, length-record}
 use Rattle.record_conversion.specs.Conversions.{pixelToAces}
 use Rattle.record_conversion.proofs.Good.{Good}
-use Rattle.strip_passes.proofs.Cut.{length-written}
+use Rattle.strip_passes.proofs.Cut.{length-at, length-written}
 use Rattle.strip.proofs.First.{at-start, at-later, all-done}
 use Rattle.strip.proofs.Back.{Whole}
 use Rattle.promise.specs.Words.{Accepted, HoldsPixel, made}
@@ -39,13 +39,6 @@ written-at f to long size (suc n) s rest (suc k) h =
     ∙ ap (recordAt to k) (drop-at (f (take size s)) _ to (long (take size s)))
     ∙ written-at f to long size n (drop size s) rest k (omega arith)
     ∙ ap f (sym (at-later size k s))
-
--- the k-th of n records is whole
-pub length-at : (size n k : ℕ) (s : List ℕ) → n * size ≤ length s → k < n → length (recordAt size k s) ≡ size
-length-at size n k s h l =
-    let m : suc k * size ≤ n * size = mul-le-mul-right size l in
-    let e : suc k * size ≡ k * size + size = suc-mul k size in
-    length-take-le size (drop (k * size) s) (rw length-drop (omega arith))
 
 pub bytes-at : (size k : ℕ) (s : List ℕ) → IsBytes s → IsBytes (recordAt size k s)
 bytes-at size k s h = take-bytes size (drop (k * size) s) (drop-bytes (k * size) s h)

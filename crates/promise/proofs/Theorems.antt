@@ -39,6 +39,7 @@ use Rattle.aces.proofs.Theorems.{aces-within, equal-codes}
 use Rattle.record_conversion.specs.Conversions.{pixelToAces, acesToPixel}
 use Rattle.record_conversion.proofs.Good.{Good}
 use Rattle.strip_passes.proofs.FirstPass.{scan-passes, counted}
+use Rattle.strip_passes.proofs.Cut.{length-at}
 use Rattle.strip.proofs.First.{FirstRefused, all-done, first-answered, answered-first}
 use Rattle.strip.proofs.Join.{whole-answer}
 use Rattle.strip.proofs.Back as back
@@ -46,7 +47,7 @@ use Rattle.way_back.specs.Back.{pixelFor, wayBackResult}
 use Rattle.way_back.proofs.Theorems.{found-gives, one-pixel, nothing-gives}
 use Rattle.promise.specs.Words.{Accepted, HoldsPixel, IsGrey, made, numberIn, NearExact, Without, OnlyPixel, SomeWithout, FirstWithout, refusalOf, refusedAt, ReportsFirst, WithoutPixel, IsOnlyPixel, GivesOnly}
 use Rattle.promise.proofs.Single.{same-triple, back-passes, back-same, passed-only, not-both, refused-without, refusal-number}
-use Rattle.promise.proofs.Strips.{written-at, length-at, bytes-at, aces-long, accepted-good, accepted-whole, made-records, made-long, made-at}
+use Rattle.promise.proofs.Strips.{written-at, bytes-at, aces-long, accepted-good, accepted-whole, made-records, made-long, made-at}
 
 taken-back : (r : List ℕ) → Good pixelToAces r → (recordCheck acesToPixel (pixelToAces .bytes r) ≡ check.Check.Passed) × (acesToPixel .bytes (pixelToAces .bytes r) ≡ r)
 taken-back r g = (back-passes r g, back-same r g)
@@ -78,7 +79,7 @@ equal-strips pixels others n m a b = (λ e. ap made e, back-equal)
     back-equal : made pixels ≡ made others → pixels ≡ others
     back-equal e =
         let c = subst (Accepted others) (count e) b in
-        back.same-strip pixelToAces aces-long (acesToPixel .inner) (acesToPixel .bytes) taken-back pixels others (made pixels) (made others) n (a .bytes) (b .bytes)
+        back.same-strip pixelToAces aces-long acesToPixel taken-back pixels others (made pixels) (made others) n (a .bytes) (b .bytes)
         (accepted-whole pixels n a (made pixels) (le-of-eq (sym (made-long pixels n a))))
         (accepted-whole others n c (made others) (le-of-eq (sym (made-long others n c))))
         (sym (made-records pixels n a) ∙ e ∙ made-records others n c)
@@ -135,8 +136,8 @@ way-back-returns pixels output n a room =
     rw (made-records pixels n a)
     (called acesToPixel (written (pixelToAces .bytes) (records 10 n pixels)) output n (pixels ++ drop (length pixels) output)
     (back.whole-done acesToPixel (written (pixelToAces .bytes) (records 10 n pixels)) output n (lit< tt)
-    (back.back-whole pixelToAces aces-long (acesToPixel .inner) (acesToPixel .bytes) taken-back pixels (made pixels) n (a .bytes) w output room))
-    (back.back-written pixelToAces aces-long (acesToPixel .inner) (acesToPixel .bytes) taken-back pixels (made pixels) n (a .bytes) w output))
+    (back.back-whole pixelToAces aces-long acesToPixel taken-back pixels (made pixels) n (a .bytes) w output room))
+    (back.back-written pixelToAces aces-long acesToPixel taken-back pixels (made pixels) n (a .bytes) w output))
 
 refusal-positive : (s : Setting) → 0 < refusalOf s
 refusal-positive s = go (settingCheck s)

@@ -1,15 +1,25 @@
--- What holds of every conversion: a record is longer than its setting, and what is written has the length that is said.
+-- What holds of every conversion: a setting that passes is valid, a record is longer than its setting, and what is written has the length that
+-- is said.
 -- Assumes nothing.
 use mathlib.Core.Path.{_≡_}
 use mathlib.Core.List.{List}
 use Prim.Native.Nat.{ℕ, _<_}
 use lib.Dec.{lit<}
 use lib.ListN.{length}
+use Rattle.rules.specs.declared.Check.the-variants.{Passed}
+use Rattle.rules.specs.declared.Setting.{Setting}
 use Rattle.rules.specs.Record.{settingOf}
+use Rattle.rules.specs.Setting.{Valid}
 use Rattle.rules.proofs.Records.{length-record}
 use Rattle.record_conversion.specs.declared.Kind.{Kind}
 use Rattle.record_conversion.specs.declared.Kind.the-variants.{PixelToScene, SceneToPixel, PixelToAces, AcesToPixel}
 use Rattle.record_conversion.specs.Conversions.{conversionOf}
+
+pub kind-valid : (k : Kind) (s : Setting) → conversionOf k .setting s ≡ Passed → Valid s
+kind-valid PixelToScene s e = e
+kind-valid SceneToPixel s e = e
+kind-valid PixelToAces s e = e
+kind-valid AcesToPixel s e = e
 
 pub from-large : (k : Kind) → 3 < conversionOf k .from
 from-large PixelToScene = lit< tt

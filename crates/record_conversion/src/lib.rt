@@ -1,11 +1,11 @@
-// The conversions of one record: what each checks of it after its setting's checks, and what it writes for it.
+// The conversions of one record: what each checks of its setting and of the record after it, and what it writes for it.
 ghost use mathlib.Core.Path.{_≡_};
 ghost use Prim.Native.Nat.{_<_};
 ghost use lib.ListN.{length};
 ghost use Rattle.rules.specs.declared.Check.the-variants.{Passed};
 ghost use Rattle.rules.specs.Record.{settingOf};
 ghost use Rattle.decode.specs.Ready.{Ready};
-ghost use Rattle.record_conversion.specs.Conversions.{conversionOf};
+ghost use Rattle.record_conversion.specs.Conversions.{acesToPixel, conversionOf, stretchAfter};
 
 mod aces_record;
 mod pixel;
@@ -13,6 +13,8 @@ mod scene;
 
 use decode::decoder::Decoder;
 use rules::Check;
+use rules::Found;
+use rules::Refusal;
 use rules::Setting;
 
 // Which conversion.
@@ -46,6 +48,18 @@ pub fn size_to(k: Kind) -> usize
     }
 }
 
+// The checks of a record's setting.
+pub fn check_setting(k: Kind, s: Setting) -> Check
+    ensures { λ r. ⌜ r ≡ conversionOf k .setting s ⌝ }
+{
+    match k {
+        Kind::PixelToScene => setting::check_setting(s),
+        Kind::SceneToPixel => setting::check_setting(s),
+        Kind::PixelToAces => setting::check_setting(s),
+        Kind::AcesToPixel => setting::check_setting(s),
+    }
+}
+
 // The checks of a record after its setting's.
 pub fn check_inner(k: Kind, s: Setting, d: Decoder, t: &[u64; 128], r: &[u8]) -> Check
     requires { ⌜ Ready s d (now t) ⌝ }
@@ -72,5 +86,22 @@ pub fn write_record(k: Kind, s: Setting, d: Decoder, t: &[u64; 128], r: &[u8], o
         Kind::SceneToPixel => scene::write_pixel(s, d, t, r, out),
         Kind::PixelToAces => aces_record::write_triple(s, d, t, r, out),
         Kind::AcesToPixel => aces_record::write_back(s, d, t, r, out),
+    }
+}
+
+// An ACES record on the way back, in one step: its check, refusal 10, and where it passes what is written for it.
+pub fn convert_aces(s: Setting, d: Decoder, t: &[u64; 128], r: &[u8], out: &mut [u8]) -> Check
+    requires { ⌜ Ready s d (now t) ⌝ }
+    requires { ⌜ (s ≡ settingOf (now r)) × (length (now r) ≡ acesToPixel .from) ⌝ }
+    requires { ⌜ length (now out) ≡ acesToPixel .to ⌝ }
+    ensures { λ x. ⌜ x ≡ acesToPixel .inner (now (r .entry)) ⌝ }
+    ensures { λ x. ⌜ now (out .exit) ≡ stretchAfter x (acesToPixel .bytes (now (r .entry))) (now (out .entry)) ⌝ }
+{
+    match way_back::find(s, d, t, records::triple_in(r)) {
+        Found::Nothing => Check::Refused(Refusal::NoPixel),
+        Found::Pixel(p) => {
+            records::put_pixel(out, s, p);
+            Check::Passed
+        }
     }
 }

@@ -1,15 +1,34 @@
 // Records in their bytes: a setting and three channels, read and written.
 ghost use mathlib.Core.Path.{_≡_};
 ghost use mathlib.Core.List.{[], _∷_};
-ghost use Prim.Native.Nat.{_<_};
+ghost use Prim.Native.Nat.{_+_, _*_, _≤_, _<_};
 ghost use lib.ListN.{length};
 ghost use Rattle.rules.specs.Record.{bytesOf, settingOf, toBits, recordOf, pixelIn, pixelRecord, tripleIn, acesRecord};
+ghost use Rattle.rules.specs.Strip.{recordAt};
+use little_endian::CODE_BYTES;
+use little_endian::NUMBER_BYTES;
 use rules::Aces;
 use rules::Code;
 use rules::Pixel;
 use rules::Scene;
 use rules::Setting;
 use rules::Triple;
+
+// The bytes of a setting, of a pixel record, and of a scene record or an ACES record.
+pub const SETTING_BYTES: usize = 4;
+
+pub const PIXEL_SIZE: usize = SETTING_BYTES + 3 * CODE_BYTES;
+
+pub const NUMBERS_SIZE: usize = SETTING_BYTES + 3 * NUMBER_BYTES;
+
+// A record of a strip, from 0.
+pub fn record_at(strip: &[u8], size: usize, i: usize) -> &[u8]
+    requires { ⌜ i * size + size ≤ length (now strip) ⌝ }
+    ensures { λ r. ⌜ now r ≡ recordAt size i (now (strip .entry)) ⌝ }
+{
+    let at = i * size;
+    &strip[at..at + size]
+}
 
 // A record's setting.
 pub fn setting_of(r: &[u8]) -> Setting

@@ -47,10 +47,10 @@ pub pixel-scene-pixel : (pixels scenes others : List ℕ) (n : ℕ) → IsBytes 
     → (Done n ≡ answerOf sceneToPixel (take (n * 28) (outputAfter pixelToScene pixels scenes (Done n))) others)
     × (outputAfter sceneToPixel (take (n * 28) (outputAfter pixelToScene pixels scenes (Done n))) others (Done n) ≡ pixels ++ drop (length pixels) others)
 pixel-scene-pixel pixels scenes others n h e room =
-    back.round-trip pixelToScene long (sceneToPixel .inner) (sceneToPixel .bytes) taken-back (lit< tt) pixels scenes others n h e room
+    back.round-trip pixelToScene long sceneToPixel taken-back (lit< tt) pixels scenes others n h e room
 
 -- EQUAL PIXEL STRIPS exactly where equal scene strips
 pub scenes-decide : (pixels pixels′ scenes scenes′ : List ℕ) (n : ℕ) → IsBytes pixels → IsBytes pixels′
     → Done n ≡ answerOf pixelToScene pixels scenes → Done n ≡ answerOf pixelToScene pixels′ scenes′
     → (pixels ≡ pixels′) ↔ (take (n * 28) (outputAfter pixelToScene pixels scenes (Done n)) ≡ take (n * 28) (outputAfter pixelToScene pixels′ scenes′ (Done n)))
-scenes-decide = back.same-written pixelToScene long (sceneToPixel .inner) (sceneToPixel .bytes) taken-back
+scenes-decide = back.same-written pixelToScene long sceneToPixel taken-back
