@@ -12,6 +12,8 @@ mod pixel;
 mod scene;
 
 use decode::decoder::Decoder;
+use records::NUMBERS_SIZE;
+use records::PIXEL_SIZE;
 use rules::Check;
 use rules::Found;
 use rules::Refusal;
@@ -30,10 +32,10 @@ pub fn size_from(k: Kind) -> usize
     ensures { λ r. ⌜ (r ≡ conversionOf k .from) × (0 < r) × (r < 100) ⌝ }
 {
     match k {
-        Kind::PixelToScene => 10,
-        Kind::SceneToPixel => 28,
-        Kind::PixelToAces => 10,
-        Kind::AcesToPixel => 28,
+        Kind::PixelToScene => PIXEL_SIZE,
+        Kind::SceneToPixel => NUMBERS_SIZE,
+        Kind::PixelToAces => PIXEL_SIZE,
+        Kind::AcesToPixel => NUMBERS_SIZE,
     }
 }
 
@@ -41,10 +43,10 @@ pub fn size_to(k: Kind) -> usize
     ensures { λ r. ⌜ (r ≡ conversionOf k .to) × (0 < r) × (r < 100) ⌝ }
 {
     match k {
-        Kind::PixelToScene => 28,
-        Kind::SceneToPixel => 10,
-        Kind::PixelToAces => 28,
-        Kind::AcesToPixel => 10,
+        Kind::PixelToScene => NUMBERS_SIZE,
+        Kind::SceneToPixel => PIXEL_SIZE,
+        Kind::PixelToAces => NUMBERS_SIZE,
+        Kind::AcesToPixel => PIXEL_SIZE,
     }
 }
 
