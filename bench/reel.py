@@ -7,6 +7,7 @@ from pathlib import Path
 sys.path.insert(0, str(Path(__file__).resolve().parent.parent / "tests"))
 from peak import watched
 from reel import reel
+from rules import PIXEL
 
 
 def computed():
@@ -23,7 +24,7 @@ def measured(*words):
 
 
 def main():
-    program, records = os.path.abspath(sys.argv[1]), int(sys.argv[2]) // 10
+    program, records = os.path.abspath(sys.argv[1]), int(sys.argv[2]) // PIXEL.size
     with tempfile.TemporaryDirectory() as folder:
         pixels, aces, back = (Path(folder) / name for name in ("pixels", "aces", "back"))
         with open(pixels, "wb") as file:

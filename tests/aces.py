@@ -83,9 +83,9 @@ def listed():
     """the pixel and the triple that 01 lists, and triples at the ends of the range, alone and after a record that passes"""
     pixel, triple = PIXEL.pack(*LISTED, 100, 0, 0), NUMBERS.pack(*LISTED, -238167, -283566, -289928)
     none = NUMBERS.pack(*LISTED, -290085, -290085, -290084)
-    yield PIXEL_TO_ACES, pixel, bytes(28)
-    yield ACES_TO_PIXEL, triple, bytes(10)
-    yield ACES_TO_PIXEL, none, bytes(10)
+    yield PIXEL_TO_ACES, pixel, bytes(NUMBERS.size)
+    yield ACES_TO_PIXEL, triple, bytes(PIXEL.size)
+    yield ACES_TO_PIXEL, none, bytes(PIXEL.size)
     yield ACES_TO_PIXEL, triple + none, bytes(30)
     yield PIXEL_TO_ACES, bytes(11), bytes(100)
     yield ACES_TO_PIXEL, bytes(29), bytes(100)
@@ -95,7 +95,7 @@ def listed():
     for s in SETTINGS:
         for x in ENDS:
             yield ACES_TO_PIXEL, triple + NUMBERS.pack(*s, x, x, x), bytes(20)
-            yield ACES_TO_PIXEL, NUMBERS.pack(*s, x, 0, -x - 1), bytes(10)
+            yield ACES_TO_PIXEL, NUMBERS.pack(*s, x, 0, -x - 1), bytes(PIXEL.size)
 
 
 def main():

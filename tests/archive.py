@@ -37,18 +37,18 @@ def checked(folder):
     _, aces = made(folder)
     assert call("check", aces) == (DONE, f"{aces}: 40000 records, each from a pixel\n", "")
     assert call("check", "-", data=aces.read_bytes())[:2] == (DONE, "standard input: 40000 records, each from a pixel\n")
-    bad = damaged(aces, folder / "bad.aces", 28 * 31000 + 4)
+    bad = damaged(aces, folder / "bad.aces", NUMBERS.size * 31000 + 4)
     before = sorted(folder.iterdir())
     for options in (), ("--chunk=7", "--threads=3"):
         status, said, wrong = call("check", bad, *options)
-        assert status == REFUSED and not said and wrong.startswith(f"{bad}: refused 10: record 31000 (byte 868000): no pixel of curve "), wrong
+        assert status == REFUSED and not said and wrong.startswith(f"{bad}: refused 10: record 31000 (byte {NUMBERS.size * 31000}): no pixel of curve "), wrong
     status, said, wrong = call("check", aces, bad, folder / "none.aces", aces)
     assert status == REFUSED and said.endswith("4 files: 2 held, 1 refused, 1 could not be read\n") and len(wrong.splitlines()) == 2, (said, wrong)
     assert call("check", aces, folder / "none.aces")[0] == FILES
     assert call("check", aces, bad, "--quiet")[:2] == (REFUSED, "")
     first, second, total = lines(call("check", aces, bad, "--json"))
     assert (first["file"], first["records"], first["status"]) == (str(aces), 40000, DONE)
-    assert (second["refusal"]["number"], second["refusal"]["record"], second["refusal"]["byte"], second["status"]) == (10, 31000, 868000, REFUSED)
+    assert (second["refusal"]["number"], second["refusal"]["record"], second["refusal"]["byte"], second["status"]) == (10, 31000, NUMBERS.size * 31000, REFUSED)
     assert (total["files"], total["held"], total["refused"], total["failed"], total["status"]) == (2, 1, 1, 0, REFUSED)
     assert sorted(folder.iterdir()) == before
 
@@ -62,13 +62,13 @@ def held_to_master(folder):
     reel_of.write_bytes(pixels.read_bytes())
     for words in ((reel_of, plain), (reel_of, plain, "--pair"), ("-", aces)):  # the records of a master can be no pixels
         assert call("verify", *words, "--chunk=100", data=pixels.read_bytes())[0] == DONE, words
-    wrong_pixels = damaged(pixels, folder / "wrong.pixels", 10 * 25000 + 4)
+    wrong_pixels = damaged(pixels, folder / "wrong.pixels", PIXEL.size * 25000 + 4)
     status, said, wrong = call("verify", wrong_pixels, aces, "--threads=4", "--chunk=50")
     assert status == REFUSED and not said and wrong == f"{wrong_pixels}: differs: record 25000 (byte 250000) is not what {aces} gives there\n", wrong
-    wrong_aces = damaged(aces, folder / "wrong.aces", 28 * 25000 + 4)
-    holds(call("verify", pixels, wrong_aces), REFUSED, f"{wrong_aces}: refused 10: record 25000 (byte 700000)")
+    wrong_aces = damaged(aces, folder / "wrong.aces", NUMBERS.size * 25000 + 4)
+    holds(call("verify", pixels, wrong_aces), REFUSED, f"{wrong_aces}: refused 10: record 25000 (byte {NUMBERS.size * 25000})")
     short, long = folder / "short.pixels", folder / "long.pixels"
-    short.write_bytes(pixels.read_bytes()[:-10])
+    short.write_bytes(pixels.read_bytes()[:-PIXEL.size])
     holds(call("verify", short, aces), REFUSED, f"{short}: differs: it has 39999 records, and {aces} has 40000")
     long.write_bytes(pixels.read_bytes() + GOOD)
     holds(call("verify", long, aces), REFUSED, f"{long}: differs: record 40000 (byte 400000) is not what {aces} gives there")
@@ -85,7 +85,7 @@ def manifests(folder):
     pixels, aces = made(folder, options=("--manifest",))
     listed = folder / "shot.aces.manifest"
     value = json.loads(listed.read_text())
-    assert (value["kind"], value["records"], value["bytes"], value["record_bytes"]) == ("ACES", 40000, 1120000, 28)
+    assert (value["kind"], value["records"], value["bytes"], value["record_bytes"]) == ("ACES", 40000, 40000 * NUMBERS.size, NUMBERS.size)
     assert value["sha256"] == hashlib.sha256(aces.read_bytes()).hexdigest()
     assert value["from"] == {"kind": "pixel", "bytes": 400000, "sha256": hashlib.sha256(pixels.read_bytes()).hexdigest()}
     counts = {}
@@ -109,13 +109,13 @@ def manifests(folder):
     another = folder / "another"
     another.write_bytes(OTHER)
     assert call("to-aces", another, folder / "record") == (DONE, "", "")
-    aces.write_bytes(data[:28] + (folder / "record").read_bytes() + data[56:])
+    aces.write_bytes(data[:NUMBERS.size] + (folder / "record").read_bytes() + data[2 * NUMBERS.size:])
     assert call("check", aces, "--no-manifest")[0] == DONE
     for words in (("check", aces), ("verify", pixels, aces, "--pair")):
         assert call(*words)[0] == REFUSED, words
     holds(call("check", aces), REFUSED, f"{aces}: differs: {listed} says SHA-256 {value['sha256']}, and it has ")
     keeps(back, "to-camera", aces, back, status=REFUSED, saying="differs: ")
-    aces.write_bytes(data[:-28])
+    aces.write_bytes(data[:-NUMBERS.size])
     holds(call("check", aces), REFUSED, "says 40000 records, and it has 39999")
     aces.write_bytes(data)
     holds(call("verify", back, aces), REFUSED, "")
@@ -186,7 +186,7 @@ def inspected(folder):
     plain.write_bytes(GOOD * 3 + BAD + b"\x09" + GOOD)
     known, views = seen(plain, "--kind", "pixel")
     assert views["pixel"]["refusal"]["number"] == 1 and views["pixel"]["records"] == 5
-    plain.write_bytes(GOOD * 3 + BAD + bytes(10) + GOOD)
+    plain.write_bytes(GOOD * 3 + BAD + bytes(PIXEL.size) + GOOD)
     status, said, wrong = call("inspect", plain, "--kind", "pixel")
     assert status == REFUSED and "refused 6: record 3 (byte 30): green code 1024 is above 1023" in said and "no setting that there is       1 records" in said, said
     status, said, wrong = call("inspect", plain)

@@ -133,7 +133,7 @@ def any_split(folder, pick):
     whole = b"".join(reel(pick, 60000))
     damaged = bytearray(whole)
     for k in (31234, 31300, 59999):
-        damaged[10 * k] = 9
+        damaged[PIXEL.size * k] = 9
     splits = [(chunk, threads) for chunk in (1, 7, 1000, 16384, 1000000) for threads in (1, 2, 7)]
     sums = set()
     for chunk, threads in splits:
@@ -154,7 +154,7 @@ def verified(folder, pick):
     source = folder / "in"
     for data in b"", GOOD, b"".join(reel(pick, 100000)):
         source.write_bytes(data)
-        said = f"{len(data) // 10} records come back the same\n"
+        said = f"{len(data) // PIXEL.size} records come back the same\n"
         assert call("verify", source)[:2] == (DONE, f"{source}: {said}")
         assert call("verify", "-", "--allow-empty", data=data)[:2] == (DONE, f"standard input: {said}")
     source.write_bytes(GOOD * 5 + b"\3\14")
@@ -178,7 +178,7 @@ def dripped(folder, pick):
     (folder / "in").write_bytes(data)
     with open(folder / "in", "rb") as file:
         assert call("to-aces", "-", folder / "other", stdin=file) == (DONE, "", "")
-    assert out.read_bytes() == (folder / "other").read_bytes() and len(out.read_bytes()) == 3000 * 28
+    assert out.read_bytes() == (folder / "other").read_bytes() and len(out.read_bytes()) == 3000 * NUMBERS.size
 
 
 def bar(folder, pick):
@@ -247,12 +247,12 @@ def links_and_modes(folder):
     real.chmod(0o640)
     link.symlink_to("real")
     assert call("to-aces", source, link) == (DONE, "", "")
-    assert link.is_symlink() and len(real.read_bytes()) == 28 and real.stat().st_mode & 0o777 == 0o640
+    assert link.is_symlink() and len(real.read_bytes()) == NUMBERS.size and real.stat().st_mode & 0o777 == 0o640
     real.unlink()
     holds(call("to-aces", source, link), FILES, "a link to a file that does not exist")
     assert not real.exists() and not litter(folder)
     assert call("to-aces", "in", "-out", cwd=folder)[0] == USAGE
-    assert call("to-aces", "--", "in", "-out", cwd=folder) == (DONE, "", "") and len((folder / "-out").read_bytes()) == 28
+    assert call("to-aces", "--", "in", "-out", cwd=folder) == (DONE, "", "") and len((folder / "-out").read_bytes()) == NUMBERS.size
 
 
 def full_disk(folder, pick):
@@ -267,7 +267,7 @@ def full_disk(folder, pick):
     try:
         keeps(small / "out", "to-aces", source, small / "out", status=FILES, saying="No space left on device")
         source.write_bytes(GOOD)
-        assert call("to-aces", source, small / "out") == (DONE, "", "") and len((small / "out").read_bytes()) == 28
+        assert call("to-aces", source, small / "out") == (DONE, "", "") and len((small / "out").read_bytes()) == NUMBERS.size
     finally:
         subprocess.run(["umount", small], check=True)
     return True
@@ -293,7 +293,7 @@ def killed(folder, pick):
         assert out.read_bytes() == OLD and len(litter(folder)) == 1
         (folder / "little").write_bytes(GOOD)
         assert call("to-aces", folder / "little", out) == (DONE, "", "")
-        assert len(out.read_bytes()) == 28 and not litter(folder)
+        assert len(out.read_bytes()) == NUMBERS.size and not litter(folder)
         out.write_bytes(OLD)
 
 
@@ -304,9 +304,9 @@ def at_once(folder):
     run.stdin.write(GOOD * 1000)
     run.stdin.flush()
     until(lambda: begun(folder))
-    assert call("to-aces", "-", out, data=GOOD) == (DONE, "", "") and len(out.read_bytes()) == 28 and len(litter(folder)) == 1
+    assert call("to-aces", "-", out, data=GOOD) == (DONE, "", "") and len(out.read_bytes()) == NUMBERS.size and len(litter(folder)) == 1
     run.stdin.close()
-    assert run.wait() == DONE and len(out.read_bytes()) == 28000 and not litter(folder)
+    assert run.wait() == DONE and len(out.read_bytes()) == NUMBERS.size000 and not litter(folder)
 
 
 def changed(folder):
@@ -343,7 +343,7 @@ def injected(folder):
     assert call("to-aces", source, out, env=under(FAULT=f"fallocate:1:{errno.EOPNOTSUPP}")) == (DONE, "", "")  # a file system that gives no room
     for fault in "read:3", "pwrite:3", "fallocate:1":  # interrupted: it goes on
         assert call("to-aces", source, out, "--chunk=1000", env=under(FAULT=f"{fault}:{errno.EINTR}")) == (DONE, "", "")
-        assert len(out.read_bytes()) == 280000
+        assert len(out.read_bytes()) == NUMBERS.size0000
     assert call("to-aces", source, out, env=under(FAULT=f"fsync:2:{errno.EINVAL}")) == (DONE, "", "")  # a file system that flushes no folder
     holds(call("to-aces", source, out, env=under(FAULT=f"fsync:2:{errno.EIO}")), FILES, "its folder could not be flushed")
     assert not litter(folder)

@@ -81,7 +81,7 @@ def same(got, want):
 def inputs(pick):
     """short inputs: none, tails alone, each with records before it; each setting and each cause; inputs about as long as a piece"""
     yield b""
-    for n in range(10):
+    for n in range(PIXEL.size):
         yield EXAMPLE + bytes(n)
         yield pick.randbytes(n)
     for s in SETTINGS:
@@ -93,7 +93,7 @@ def inputs(pick):
     for n in (PIECE - 1, PIECE, PIECE + 1, 2 * PIECE, 3 * PIECE + 5):
         yield mixed(pick, n) + pick.randbytes(pick.choice((0, 0, 1, 9)))
     for _ in range(200):
-        yield mixed(pick, pick.randrange(40)) + pick.randbytes(pick.randrange(10))
+        yield mixed(pick, pick.randrange(40)) + pick.randbytes(pick.randrange(PIXEL.size))
         yield pick.randbytes(pick.randrange(300))
 
 

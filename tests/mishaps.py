@@ -92,7 +92,7 @@ def signals(folder):
     until(lambda: begun(folder))
     run.send_signal(signal.SIGHUP)
     run.communicate()
-    assert run.returncode == DONE and len(out.read_bytes()) == 28
+    assert run.returncode == DONE and len(out.read_bytes()) == NUMBERS.size
     os.mkfifo(folder / "fifo")
     run = begin("to-aces", folder / "fifo", out)  # nobody writes to it
     until(lambda: litter(folder))
@@ -141,7 +141,7 @@ def paused_pipe(folder):
     run = begin("to-camera", "-", out, "--chunk", "100000", "--threads", "2", stdin=subprocess.PIPE)
     run.stdin.write(good * 99999 + bad * 100001)
     run.stdin.flush()
-    assert run.stderr.readline().startswith(b"standard input: refused so far by 10: record 99999 (byte 2799972): ")
+    assert run.stderr.readline().startswith(b"standard input: refused so far by 10: record 99999 (byte %d): " % (NUMBERS.size * 99999))
     run.communicate()
     assert run.returncode == REFUSED
 
@@ -186,7 +186,7 @@ def other_runs(folder):
     with open(held, "r+b") as file:
         fcntl.flock(file, fcntl.LOCK_EX)  # as a run in another container or on another machine does, which no process here shows
         assert call("to-aces", source, out) == (DONE, "", "")
-        assert held.exists() and other.exists() and not dead.exists() and not listing.exists() and len(out.read_bytes()) == 28
+        assert held.exists() and other.exists() and not dead.exists() and not listing.exists() and len(out.read_bytes()) == NUMBERS.size
     assert call("to-aces", source, out) == (DONE, "", "") and not held.exists() and other.exists()
     run = begin("to-aces", "-", out, "--chunk", "10", stdin=subprocess.PIPE)
     run.stdin.write(GOOD * 1000)
@@ -199,10 +199,10 @@ def other_runs(folder):
         except BlockingIOError:
             pass
     run.communicate()
-    assert run.returncode == DONE and len(out.read_bytes()) == 28000
+    assert run.returncode == DONE and len(out.read_bytes()) == NUMBERS.size000
     racing = [begin("to-aces", source, out) for _ in range(60)]
     assert all(run.wait() in (DONE, FILES) and b"32 other runs" in run.stderr.read() + b"32 other runs" * (run.returncode == DONE) for run in racing)
-    assert len(out.read_bytes()) == 28 and litter(folder) == [".other.ropeinstant-0"], litter(folder)
+    assert len(out.read_bytes()) == NUMBERS.size and litter(folder) == [".other.ropeinstant-0"], litter(folder)
 
 
 def crowded_folder(folder):
@@ -219,7 +219,7 @@ def no_room(folder):
     """where there is no room for the output, nothing is written; a name may have 255 bytes"""
     source, small = folder / "in", folder / "small"
     with open(source, "wb") as file:
-        file.truncate(10 * 10**8)  # 1 GB of zeros, refused by 3 once it is read: the room is asked for before
+        file.truncate(PIXEL.size * 10**8)  # 1 GB of zeros, refused by 3 once it is read: the room is asked for before
     small.mkdir()
     if not subprocess.run(["mount", "-t", "tmpfs", "-o", "size=1m", "tmpfs", small], capture_output=True).returncode:
         try:
@@ -229,7 +229,7 @@ def no_room(folder):
     source.write_bytes(GOOD)
     for length in 200, 218, 237, 255:
         out = folder / ("x" * length)
-        assert call("to-aces", source, out) == (DONE, "", "") and len(out.read_bytes()) == 28 and not litter(folder)
+        assert call("to-aces", source, out) == (DONE, "", "") and len(out.read_bytes()) == NUMBERS.size and not litter(folder)
     out.write_bytes(OLD)
     source.write_bytes(BAD)
     keeps(out, "to-aces", source, out, status=REFUSED, saying="refused 6")
@@ -255,7 +255,7 @@ def replaced(folder):
     out.write_bytes(OLD)
     os.link(out, link)
     assert call("to-aces", source, out) == (DONE, "", f"{out}: the other names of the old file keep the old content\n")
-    assert link.read_bytes() == OLD and len(out.read_bytes()) == 28
+    assert link.read_bytes() == OLD and len(out.read_bytes()) == NUMBERS.size
     if os.geteuid() == 0:  # another user's file in a folder that all may write
         program = folder / "program"
         shutil.copy(PROGRAM, program)

@@ -1,9 +1,11 @@
 #!/usr/bin/env python3
-"""reel.py BYTES FILE [SEED]: write a reel of BYTES // 10 random pixel records, all accepted, in runs of one setting; every setting occurs in
+"""reel.py BYTES FILE [SEED]: write a reel of random pixel records, as many as BYTES hold, all accepted, in runs of one setting; every setting occurs in
 a reel of 35 runs or more."""
 import random, sys
+from struct import calcsize
 
 from decoded import SETTINGS
+from rules import PIXEL
 
 RUN = 20000  # records
 
@@ -12,12 +14,12 @@ def run(pick, setting, count):
     """records of one setting, with random codes"""
     curve, width, ei = setting
     high = bytes(b & (1 << width - 8) - 1 for b in range(256))  # what a random byte becomes as a code's high byte
-    data = bytearray(10 * count)
+    data = bytearray(PIXEL.size * count)
     for place, byte in enumerate((curve, width, *ei.to_bytes(2, "little"))):
-        data[place::10] = bytes((byte,)) * count
-    for place in range(4, 10, 2):
-        data[place::10] = pick.randbytes(count)
-        data[place + 1::10] = pick.randbytes(count).translate(high)
+        data[place::PIXEL.size] = bytes((byte,)) * count
+    for place in range(calcsize("<BBH"), PIXEL.size, calcsize("<H")):  # the codes, behind the setting
+        data[place::PIXEL.size] = pick.randbytes(count)
+        data[place + 1::PIXEL.size] = pick.randbytes(count).translate(high)
     return data
 
 
@@ -34,7 +36,7 @@ def main():
         sys.exit(f"usage: {__doc__}\nas in: tests/reel.py 1000000000 shot.pixels")
     pick = random.Random(int(sys.argv[3]) if len(sys.argv) > 3 else 1)
     with open(sys.argv[2], "wb") as file:
-        for data in reel(pick, int(sys.argv[1]) // 10):
+        for data in reel(pick, int(sys.argv[1]) // PIXEL.size):
             file.write(data)
 
 

@@ -1,6 +1,6 @@
 //! The contest of one setting: the contestants' times, and the shares of pixels that come back a code off.
 use crate::ocio::Ocio;
-use crate::plain;
+use crate::plain::{self, ACES, PIXEL};
 
 #[repr(C)]
 struct Timespec {
@@ -49,7 +49,7 @@ pub struct Shares {
 impl Contest {
     pub fn new(setting: Setting, pixels: usize) -> Contest {
         let strip = random_strip(&setting, pixels);
-        let aces = converted(ropeinstant_pixel_to_aces, &strip, 28 * pixels);
+        let aces = converted(ropeinstant_pixel_to_aces, &strip, ACES * pixels);
         let ocio = Ocio::new(&setting);
         let signals = signals(&setting, &strip);
         let rgb = signals.clone();
@@ -58,15 +58,15 @@ impl Contest {
 
     /// Times each contestant once, on the first pixels of the strip.
     pub fn round(&mut self, pixels: usize) {
-        let (strip, aces) = (&self.strip[..10 * pixels], &self.aces[..28 * pixels]);
+        let (strip, aces) = (&self.strip[..PIXEL * pixels], &self.aces[..ACES * pixels]);
         let (mut made, mut returned) = (aces.to_vec(), strip.to_vec());
         let (to, back) = (&mut self.to_aces, &mut self.to_camera);
-        least(&mut to[0], pixels, || convert_lines(ropeinstant_pixel_to_aces, strip, 10, &mut made, 28));
+        least(&mut to[0], pixels, || convert_lines(ropeinstant_pixel_to_aces, strip, PIXEL, &mut made, ACES));
         least(&mut to[1], pixels, || convert(ropeinstant_pixel_to_aces, strip, &mut made));
         assert!(made == aces);
         least(&mut to[2], pixels, || assert!(plain::to_aces(strip, &mut made)));
         least(&mut to[4], pixels, || made.copy_from_slice(aces));
-        least(&mut back[0], pixels, || convert_lines(ropeinstant_aces_to_pixel, aces, 28, &mut returned, 10));
+        least(&mut back[0], pixels, || convert_lines(ropeinstant_aces_to_pixel, aces, ACES, &mut returned, PIXEL));
         least(&mut back[1], pixels, || convert(ropeinstant_aces_to_pixel, aces, &mut returned));
         assert!(returned == strip);
         least(&mut back[2], pixels, || assert!(plain::to_camera(aces, &mut returned)));
@@ -84,11 +84,11 @@ impl Contest {
         let mut off = [None; 5];
         let (mut made, mut returned) = (vec![0; aces.len()], vec![0; strip.len()]);
         convert(ropeinstant_aces_to_pixel, aces, &mut returned);
-        off[0] = Some(differing(strip, &returned, 10));
+        off[0] = Some(differing(strip, &returned, PIXEL));
         assert!(plain::to_aces(strip, &mut made) && plain::to_camera(&made, &mut returned));
-        off[1] = Some(differing(strip, &returned, 10));
+        off[1] = Some(differing(strip, &returned, PIXEL));
         assert!(plain::to_camera_of(&made, &mut returned, half));
-        off[2] = Some(differing(strip, &returned, 10));
+        off[2] = Some(differing(strip, &returned, PIXEL));
         if let Some(ocio) = &self.ocio {
             let mut values = signals(&self.setting, strip);
             ocio.to_aces(&mut values);
@@ -96,14 +96,14 @@ impl Contest {
             off[3] = Some(codes_off(&self.setting, strip, ocio, values));
             off[4] = Some(codes_off(&self.setting, strip, ocio, halves));
         }
-        Shares { off, inexact: differing(aces, &made, 28) }
+        Shares { off, inexact: differing(aces, &made, ACES) }
     }
 }
 
 /// Pixel records with random codes.
 fn random_strip(setting: &Setting, pixels: usize) -> Vec<u8> {
     let mut state = 88172645463325252_u64;
-    let mut strip = Vec::with_capacity(10 * pixels);
+    let mut strip = Vec::with_capacity(PIXEL * pixels);
     for _ in 0..pixels {
         strip.extend([setting.curve, setting.width]);
         strip.extend(setting.ei.to_le_bytes());
@@ -146,7 +146,7 @@ fn signals(setting: &Setting, strip: &[u8]) -> Vec<f32> {
 }
 
 fn codes(strip: &[u8]) -> Vec<u16> {
-    strip.chunks_exact(10).flat_map(|pixel| [4, 6, 8].map(|at| u16::from_le_bytes([pixel[at], pixel[at + 1]]))).collect()
+    strip.chunks_exact(PIXEL).flat_map(plain::codes_of).collect()
 }
 
 /// Times something, and keeps the least time of a pixel.
@@ -175,7 +175,7 @@ fn codes_off(setting: &Setting, strip: &[u8], ocio: &Ocio, mut values: Vec<f32>)
     ocio.to_camera(&mut values);
     let returned: Vec<u16> = values.iter().map(|signal| (signal * top(setting) as f32).round() as u16).collect();
     let count = codes(strip).chunks_exact(3).zip(returned.chunks_exact(3)).filter(|(x, y)| x != y).count();
-    count as f64 / (strip.len() / 10) as f64
+    count as f64 / (strip.len() / PIXEL) as f64
 }
 
 /// The nearest half float (a tie to the even one), of a value below the largest.

@@ -4,6 +4,13 @@ use std::convert::TryInto;
 
 const UNIT: f64 = 16777216.0; // units in 1
 
+// The bytes of a setting, of a code and of a number, and of a pixel record and an ACES record.
+const SETTING: usize = 4;
+const CODE: usize = 2;
+const NUMBER: usize = 8;
+pub const PIXEL: usize = SETTING + 3 * CODE;
+pub const ACES: usize = SETTING + 3 * NUMBER;
+
 struct Curve {
     a: f64,
     b: f64,
@@ -108,21 +115,26 @@ fn constants<'a>(kept: &'a mut Option<Plain>, record: &[u8]) -> Option<&'a Plain
     kept.as_ref()
 }
 
+/// The codes of a pixel record.
+pub fn codes_of(pixel: &[u8]) -> [u16; 3] {
+    [0, 1, 2].map(|i| SETTING + i * CODE).map(|at| u16::from_le_bytes([pixel[at], pixel[at + 1]]))
+}
+
 /// Pixel records to ACES records; false if refused.
 pub fn to_aces(input: &[u8], output: &mut [u8]) -> bool {
     let mut kept = None;
-    for (pixel, aces) in input.chunks_exact(10).zip(output.chunks_exact_mut(28)) {
+    for (pixel, aces) in input.chunks_exact(PIXEL).zip(output.chunks_exact_mut(ACES)) {
         let plain = match constants(&mut kept, pixel) {
             Some(plain) => plain,
             None => return false,
         };
-        let codes = [4, 6, 8].map(|at| u16::from_le_bytes([pixel[at], pixel[at + 1]]));
+        let codes = codes_of(pixel);
         if codes.iter().any(|code| f64::from(*code) > plain.top) {
             return false;
         }
-        aces[..4].copy_from_slice(&pixel[..4]);
+        aces[..SETTING].copy_from_slice(&pixel[..SETTING]);
         let numbers = plain.aces(codes.map(|code| plain.decode(code)));
-        numbers.iter().zip(aces[4..].chunks_exact_mut(8)).for_each(|(number, bytes)| bytes.copy_from_slice(&number.to_le_bytes()));
+        numbers.iter().zip(aces[SETTING..].chunks_exact_mut(NUMBER)).for_each(|(number, bytes)| bytes.copy_from_slice(&number.to_le_bytes()));
     }
     true
 }
@@ -135,15 +147,15 @@ pub fn to_camera(input: &[u8], output: &mut [u8]) -> bool {
 /// The same, of each ACES value after some change.
 pub fn to_camera_of(input: &[u8], output: &mut [u8], change: impl Fn(f64) -> f64) -> bool {
     let mut kept = None;
-    for (aces, pixel) in input.chunks_exact(28).zip(output.chunks_exact_mut(10)) {
+    for (aces, pixel) in input.chunks_exact(ACES).zip(output.chunks_exact_mut(PIXEL)) {
         let plain = match constants(&mut kept, aces) {
             Some(plain) => plain,
             None => return false,
         };
-        let value = |at: usize| change(i64::from_le_bytes(aces[at..at + 8].try_into().unwrap()) as f64 / UNIT);
-        pixel[..4].copy_from_slice(&aces[..4]);
-        let codes = plain.codes([value(4), value(12), value(20)]);
-        codes.iter().zip(pixel[4..].chunks_exact_mut(2)).for_each(|(code, bytes)| bytes.copy_from_slice(&code.to_le_bytes()));
+        let value = |at: usize| change(i64::from_le_bytes(aces[at..at + NUMBER].try_into().unwrap()) as f64 / UNIT);
+        pixel[..SETTING].copy_from_slice(&aces[..SETTING]);
+        let codes = plain.codes([0, 1, 2].map(|i| value(SETTING + i * NUMBER)));
+        codes.iter().zip(pixel[SETTING..].chunks_exact_mut(CODE)).for_each(|(code, bytes)| bytes.copy_from_slice(&code.to_le_bytes()));
     }
     true
 }

@@ -49,6 +49,7 @@ fn call(function: Function, input: &[u8], output: &mut [u8]) -> Answer {
 #[cfg(test)]
 mod tests {
     use super::*;
+    use crate::kinds;
 
     // Curve 3, width 12, EI 800, and the pixel 100, 0, 0 with its ACES numbers, as the rules list them.
     const PIXEL: [u8; 10] = [3, 12, 0x20, 3, 100, 0, 0, 0, 0, 0];
@@ -56,21 +57,21 @@ mod tests {
 
     #[test]
     fn the_listed_pixel_and_back() {
-        let mut aces = [0; 28];
+        let mut aces = [0; kinds::ACES.size()];
         assert_eq!(pixel_to_aces(&PIXEL, &mut aces), Ok(1));
         let mut listed = PIXEL[..4].to_vec();
         ACES.iter().for_each(|number| listed.extend(number.to_le_bytes()));
         assert_eq!(aces, listed[..]);
-        let mut pixel = [0; 10];
+        let mut pixel = [0; kinds::PIXEL.size()];
         assert_eq!(aces_to_pixel(&aces, &mut pixel), Ok(1));
         assert_eq!(pixel, PIXEL);
     }
 
     #[test]
     fn scene_and_back() {
-        let (mut scene, mut pixel) = ([0; 28], [0; 10]);
+        let (mut scene, mut pixel) = ([0; kinds::SCENE.size()], [0; kinds::PIXEL.size()]);
         assert_eq!(pixel_to_scene(&PIXEL, &mut scene), Ok(1));
-        assert_eq!(scene[4..12], (-213758_i64).to_le_bytes());
+        assert_eq!(kinds::SCENE.numbers(&scene)[0], -213758);
         assert_eq!(scene_to_pixel(&scene, &mut pixel), Ok(1));
         assert_eq!(pixel, PIXEL);
     }
@@ -78,9 +79,9 @@ mod tests {
     #[test]
     fn empty_and_refused() {
         assert_eq!(pixel_to_aces(&[], &mut []), Ok(0));
-        let mut kept = [7; 56];
+        let mut kept = [7; 2 * kinds::ACES.size()];
         let two = [PIXEL, [4, 10, 0, 0, 0, 0, 0, 0, 0, 0]].concat();
         assert_eq!(pixel_to_aces(&two, &mut kept), Err(Refusal { number: 4, record: 1 }));
-        assert_eq!(kept, [7; 56]);
+        assert_eq!(kept, [7; 2 * kinds::ACES.size()]);
     }
 }

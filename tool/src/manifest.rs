@@ -103,7 +103,8 @@ mod tests {
 
     #[test]
     fn what_is_written_is_read() {
-        let (of, from) = (Of { kind: &ACES, bytes: 28, sha256: "aa" }, Of { kind: &PIXEL, bytes: 10, sha256: "bb" });
+        let (of, from) =
+            (Of { kind: &ACES, bytes: ACES.size() as u64, sha256: "aa" }, Of { kind: &PIXEL, bytes: PIXEL.size() as u64, sha256: "bb" });
         let value = serde_json::from_str(&text(&of, 1, &Summary::default(), &from)).unwrap();
         let manifest = Manifest::parse("x", &value).unwrap();
         assert_eq!((manifest.kind, manifest.records, &manifest.sha256[..], &manifest.from[..]), (&ACES, 1, "aa", "bb"));

@@ -16,7 +16,7 @@ use Rattle.lister_line.specs.Line.{longest, longestTail}
 use Rattle.lister_line.proofs.Lengths.{tail-long}
 use Rattle.lister_text.specs.Listed.{lines, enough, listed, textFor, Lists}
 use Rattle.lister_text.proofs.Lengths.{lines-long}
-use Rattle.rules.specs.Lister.{tailLine, listedBy}
+use Rattle.rules.specs.Lister.{size, tailLine, listedBy}
 
 none : (k : ℕ) (input output : List ℕ) → enough k input output ≡ false → Lists k input output 0 output
 unfolding textFor
@@ -27,25 +27,25 @@ neither true = refl
 neither false = refl
 
 module _ (k : ℕ) (input output : List ℕ) where
-  pub no-room : length output < longest * (length input / 10) + longestTail → Lists k input output 0 output
-  no-room h = none k input output (rw (lt-leb (longest * (length input / 10) + longestTail) (length output) h))
+  pub no-room : length output < longest * (length input / size) + longestTail → Lists k input output 0 output
+  no-room h = none k input output (rw (lt-leb (longest * (length input / size) + longestTail) (length output) h))
 
-  pub no-index : 2 ^ 64 ≤ k + length input / 10 → Lists k input output 0 output
+  pub no-index : 2 ^ 64 ≤ k + length input / size → Lists k input output 0 output
   no-index h =
       none k input output
-      (rw (le-ltb (k + length input / 10) (2 ^ 64) h) (neither (leb (longest * (length input / 10) + longestTail) (length output))))
+      (rw (le-ltb (k + length input / size) (2 ^ 64) h) (neither (leb (longest * (length input / size) + longestTail) (length output))))
 
-  module _ (room : longest * (length input / 10) + longestTail ≤ length output) (indices : k + length input / 10 < 2 ^ 64) where
+  module _ (room : longest * (length input / size) + longestTail ≤ length output) (indices : k + length input / size < 2 ^ 64) where
     abbrev upper : List ℕ
-    upper = lines k (records 10 (length input / 10) input)
+    upper = lines k (records size (length input / size) input)
 
     abbrev lower : List ℕ
-    lower = tailLine (length input % 10)
+    lower = tailLine (length input % size)
 
     all-room : Room (upper ++ lower) output 0
     all-room =
         record {
-          within = omega (arith, length-append upper lower, lines-long k (length input / 10) input indices, tail-long (length input % 10) (omega arith));
+          within = omega (arith, length-append upper lower, lines-long k (length input / size) input indices, tail-long (length input % size) (omega arith));
         }
 
     module _ {after : List ℕ} {at : ℕ} (p : Put upper output 0 after at) where
@@ -56,6 +56,6 @@ module _ (k : ℕ) (input output : List ℕ) where
       unfolding textFor listedBy
       all-listed q =
           let w = put-both upper lower all-room p q in
-          let h = le-leb (longest * (length input / 10) + longestTail) (length output) room in
-          let i = lt-ltb (k + length input / 10) (2 ^ 64) indices in
+          let h = le-leb (longest * (length input / size) + longestTail) (length output) room in
+          let i = lt-ltb (k + length input / size) (2 ^ 64) indices in
           record { counts = rw (h, i) (omega (arith, w .ends)); writes = rw (h, i) (w .is) }

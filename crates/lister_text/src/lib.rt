@@ -2,28 +2,28 @@
 ghost use mathlib.Core.Path.{_≡_};
 ghost use Prim.Native.Nat.{_+_, _*_, _^_, _≤_, _<_};
 ghost use lib.ListN.{length};
-ghost use Rattle.rules.specs.Setting.{Valid};
+ghost use Rattle.rules.specs.declared.Check.the-variants.{Passed};
 ghost use Rattle.rules.specs.Record.{settingOf};
 ghost use Rattle.rules.specs.Strip.{records};
 ghost use Rattle.text.specs.Put.{Put};
+ghost use Rattle.record_conversion.specs.Conversions.{pixelToAces};
 ghost use Rattle.lister_line.specs.Line.{longest};
 ghost use Rattle.lister_text.specs.Listed.{outcomeOf, lines, Lists};
 ghost use Rattle.rules.specs.Lister.{size};
 use decode::decoder::Decoder;
 use record_conversion::Kind;
+use records::PIXEL_SIZE;
 use rules::Check;
 use rules::Outcome;
 use rules::Setting;
 
-// The bytes of a pixel record, of the longest line, and of the longest line of a tail.
-const RECORD: usize = 10;
-
+// The bytes of the longest line, and of the longest line of a tail.
 const LONGEST: usize = 66;
 
 const LONGEST_TAIL: usize = 7;
 
 fn judge_valid(s: Setting, r: &[u8]) -> Outcome
-    requires { ⌜ Valid s ⌝ }
+    requires { ⌜ pixelToAces .setting s ≡ Passed ⌝ }
     requires { ⌜ (s ≡ settingOf (now r)) × (length (now r) ≡ size) ⌝ }
     ensures { λ o. ⌜ o ≡ outcomeOf (now (r .entry)) ⌝ }
 {
@@ -41,7 +41,7 @@ fn judge(r: &[u8]) -> Outcome
     ensures { λ o. ⌜ o ≡ outcomeOf (now (r .entry)) ⌝ }
 {
     let s = records::setting_of(r);
-    match setting::check_setting(s) {
+    match record_conversion::check_setting(Kind::PixelToAces, s) {
         Check::Refused(why) => Outcome::Refused(why),
         Check::Passed => judge_valid(s, r),
     }
@@ -55,8 +55,7 @@ fn put_lines(first: u64, input: &[u8], n: usize, out: &mut [u8]) -> usize
     let mut at = 0;
     let mut i = 0;
     while i < n {
-        let a = i * RECORD;
-        let o = judge(&input[a..a + RECORD]);
+        let o = judge(records::record_at(input, PIXEL_SIZE, i));
         at = lister_line::put_line(out, at, first + i as u64, o);
         i += 1;
     }
@@ -69,7 +68,7 @@ fn put_lines(first: u64, input: &[u8], n: usize, out: &mut [u8]) -> usize
 pub fn list(first: u64, input: &[u8], out: &mut [u8]) -> usize
     ensures { λ count. ⌜ Lists first (now (input .entry)) (now (out .entry)) count (now (out .exit)) ⌝ }
 {
-    let n = input.len() / RECORD;
+    let n = input.len() / PIXEL_SIZE;
     if out.len() < LONGEST_TAIL {
         return 0;
     }
@@ -80,5 +79,5 @@ pub fn list(first: u64, input: &[u8], out: &mut [u8]) -> usize
         return 0;
     }
     let at = put_lines(first, input, n, out);
-    lister_line::put_tail(out, at, input.len() % RECORD)
+    lister_line::put_tail(out, at, input.len() % PIXEL_SIZE)
 }

@@ -15,7 +15,7 @@ use lib.Signed.{ltZ, nonNeg}
 use mir.Syntax.{w64}
 use mir.Val.{SFits, Fits}
 use Rattle.whole.proofs.Words.{notZ}
-use Rattle.rules.specs.Record.{value, toBits, ofBits}
+use Rattle.rules.specs.Record.{value, toBits, ofBits, numberBytes}
 
 -- the number of n bytes from a place on, byte by byte
 abbrev pub valueAt : (n at : ℕ) → List ℕ → ℕ
@@ -42,16 +42,16 @@ pub cast-pos : (z : ℤ) → ltZ z (pos 0) ≡ false → SFits w64 z → T (nonN
 cast-pos (pos a) e f = (tt, record { fits = lt-trans (f .sfits) (lit< tt) })
 cast-pos (negsuc a) e f = absurd (subst T e tt)
 
-pub bits-neg : (z : ℤ) → ltZ z (pos 0) ≡ true → 18446744073709551615 - natAbs (notZ z) ≡ toBits 8 z
+pub bits-neg : (z : ℤ) → ltZ z (pos 0) ≡ true → 18446744073709551615 - natAbs (notZ z) ≡ toBits numberBytes z
 bits-neg (pos a) e = absurd (omega (arith, ltb-true a 0 e))
 bits-neg (negsuc a) e = omega arith
 
-pub bits-pos : (z : ℤ) → ltZ z (pos 0) ≡ false → natAbs z ≡ toBits 8 z
+pub bits-pos : (z : ℤ) → ltZ z (pos 0) ≡ false → natAbs z ≡ toBits numberBytes z
 bits-pos (pos a) e = refl
 bits-pos (negsuc a) e = absurd (subst T e tt)
 
-pub of-low : (u : ℕ) → u < 9223372036854775808 → pos u ≡ ofBits 8 u
+pub of-low : (u : ℕ) → u < 9223372036854775808 → pos u ≡ ofBits numberBytes u
 of-low u h = rw (lt-ltb (2 * u) 18446744073709551616 (omega arith))
 
-pub of-high : (u : ℕ) → 9223372036854775808 ≤ u → negsuc (18446744073709551615 - u) ≡ ofBits 8 u
+pub of-high : (u : ℕ) → 9223372036854775808 ≤ u → negsuc (18446744073709551615 - u) ≡ ofBits numberBytes u
 of-high u h = rw (le-ltb (2 * u) 18446744073709551616 (omega arith)) (ap negsuc (omega arith))

@@ -1,8 +1,13 @@
-// Numbers in bytes, little endian: codes in two, signed numbers in eight.
+// Numbers in bytes, little endian: codes, and signed numbers.
 ghost use mathlib.Core.Path.{_≡_};
-ghost use Prim.Native.Nat.{_+_, _<_};
+ghost use Prim.Native.Nat.{_+_, _≤_, _<_};
 ghost use lib.ListN.{length, take, drop};
-ghost use Rattle.rules.specs.Record.{value, digits, toBits, ofBits};
+ghost use Rattle.rules.specs.Record.{value, digits, toBits, ofBits, numberBytes};
+
+// The bytes of a code, and of a signed number.
+pub const CODE_BYTES: usize = 2;
+
+pub const NUMBER_BYTES: usize = 8;
 
 fn wide(x: u8) -> u16
     ensures { λ r. ⌜ (r ≡ x) × (r < 256) ⌝ }
@@ -16,18 +21,18 @@ fn wider(x: u8) -> u64
     x as u64
 }
 
-// The number of two bytes.
-pub fn word_at(r: &[u8], at: usize) -> u16
-    requires { ⌜ at + 1 < length (now r) ⌝ }
+// The number of two bytes: a code, or an EI.
+pub fn u16_at(r: &[u8], at: usize) -> u16
+    requires { ⌜ at + 2 ≤ length (now r) ⌝ }
     ensures { λ n. ⌜ n ≡ value (take 2 (drop at (now (r .entry)))) ⌝ }
 {
     wide(r[at]) + 256 * wide(r[at + 1])
 }
 
-// The number of eight bytes, without a sign.
+// A number from its bytes, without a sign.
 fn bits_at(r: &[u8], at: usize) -> u64
-    requires { ⌜ at + 7 < length (now r) ⌝ }
-    ensures { λ n. ⌜ n ≡ value (take 8 (drop at (now (r .entry)))) ⌝ }
+    requires { ⌜ at + numberBytes ≤ length (now r) ⌝ }
+    ensures { λ n. ⌜ n ≡ value (take numberBytes (drop at (now (r .entry)))) ⌝ }
 {
     let h = wider(r[at + 7]);
     let g = wider(r[at + 6]) + 256 * h;
@@ -41,7 +46,7 @@ fn bits_at(r: &[u8], at: usize) -> u64
 
 // The signed number of which u are the bits, and the bits of a signed number.
 fn of_bits(u: u64) -> i64
-    ensures { λ z. ⌜ z ≡ ofBits 8 u ⌝ }
+    ensures { λ z. ⌜ z ≡ ofBits numberBytes u ⌝ }
 {
     if u < 9223372036854775808 {
         u as i64
@@ -51,7 +56,7 @@ fn of_bits(u: u64) -> i64
 }
 
 fn to_bits(z: i64) -> u64
-    ensures { λ u. ⌜ u ≡ toBits 8 z ⌝ }
+    ensures { λ u. ⌜ u ≡ toBits numberBytes z ⌝ }
 {
     if z < 0 {
         18446744073709551615 - (-1 - z) as u64
@@ -60,16 +65,16 @@ fn to_bits(z: i64) -> u64
     }
 }
 
-// The signed number of eight bytes.
-pub fn long_at(r: &[u8], at: usize) -> i64
-    requires { ⌜ at + 7 < length (now r) ⌝ }
-    ensures { λ z. ⌜ z ≡ ofBits 8 (value (take 8 (drop at (now (r .entry))))) ⌝ }
+// A signed number from its bytes.
+pub fn number_at(r: &[u8], at: usize) -> i64
+    requires { ⌜ at + numberBytes ≤ length (now r) ⌝ }
+    ensures { λ z. ⌜ z ≡ ofBits numberBytes (value (take numberBytes (drop at (now (r .entry))))) ⌝ }
 {
     of_bits(bits_at(r, at))
 }
 
 // A number in two bytes.
-pub fn put_word(out: &mut [u8], x: u16)
+pub fn put_u16(out: &mut [u8], x: u16)
     requires { ⌜ length (now out) ≡ 2 ⌝ }
     ensures { λ _. ⌜ now (out .exit) ≡ digits 2 x ⌝ }
 {
@@ -77,10 +82,10 @@ pub fn put_word(out: &mut [u8], x: u16)
     out[1] = (x / 256 % 256) as u8;
 }
 
-// A signed number in eight bytes.
-pub fn put_long(out: &mut [u8], z: i64)
-    requires { ⌜ length (now out) ≡ 8 ⌝ }
-    ensures { λ _. ⌜ now (out .exit) ≡ digits 8 (toBits 8 z) ⌝ }
+// A signed number in its bytes.
+pub fn put_number(out: &mut [u8], z: i64)
+    requires { ⌜ length (now out) ≡ numberBytes ⌝ }
+    ensures { λ _. ⌜ now (out .exit) ≡ digits numberBytes (toBits numberBytes z) ⌝ }
 {
     let a = to_bits(z);
     let b = a / 256;

@@ -6,6 +6,7 @@ use mathlib.Core.Path.{_≡_, sym, subst}
 use mathlib.Core.List.{List, [], _∷_}
 use Prim.Native.Nat.{ℕ, _*_, _≤_, _<_}
 use lib.ListN.{length}
+use Rattle.rules.specs.Record.{pixelSize, numbersSize}
 use Rattle.rules.specs.declared.Answer.{Answer}
 use Rattle.rules.specs.Result.{done, stripResult}
 use Rattle.rules.specs.Strip.{Conversion, recordAt, answerOf, outputAfter, Converts}
@@ -29,14 +30,14 @@ module _ {c : Conversion} {input output after : List ℕ} {answer : Answer} (h :
 
 -- a call of pixel to scene, on a strip whose records hold pixels
 pub decoded-by-call : {pixels output after : List ℕ} {answer : Answer} → Converts pixelToScene pixels output answer after → LentBytes pixels output after
-    → (n : ℕ) → length pixels ≡ n * 10 → ((k : ℕ) → k < n → HoldsPixel (recordAt 10 k pixels)) → n * 28 ≤ length output
-    → (stripResult answer ≡ done (n ∷ [])) × ((k : ℕ) → k < n → DecodedRecord (recordAt 10 k pixels) (recordAt 28 k after))
+    → (n : ℕ) → length pixels ≡ n * pixelSize → ((k : ℕ) → k < n → HoldsPixel (recordAt pixelSize k pixels)) → n * numbersSize ≤ length output
+    → (stripResult answer ≡ done (n ∷ [])) × ((k : ℕ) → k < n → DecodedRecord (recordAt pixelSize k pixels) (recordAt numbersSize k after))
 decoded-by-call {pixels} {output} h lent n long each room =
     each-of-call h DecodedRecord n (pixels-decoded pixels output n (record { bytes = lent .input-bytes; long = long; each = each }) room)
 
 -- and of scene to pixel
 pub encoded-by-call : {scenes output after : List ℕ} {answer : Answer} → Converts sceneToPixel scenes output answer after → LentBytes scenes output after
-    → (n : ℕ) → length scenes ≡ n * 28 → ((k : ℕ) → k < n → HoldsScene (recordAt 28 k scenes)) → n * 10 ≤ length output
-    → (stripResult answer ≡ done (n ∷ [])) × ((k : ℕ) → k < n → EncodedRecord (recordAt 28 k scenes) (recordAt 10 k after))
+    → (n : ℕ) → length scenes ≡ n * numbersSize → ((k : ℕ) → k < n → HoldsScene (recordAt numbersSize k scenes)) → n * pixelSize ≤ length output
+    → (stripResult answer ≡ done (n ∷ [])) × ((k : ℕ) → k < n → EncodedRecord (recordAt numbersSize k scenes) (recordAt pixelSize k after))
 encoded-by-call {scenes} {output} h lent n long each room =
     each-of-call h EncodedRecord n (scenes-encoded scenes output n (record { bytes = lent .input-bytes; long = long; each = each }) room)

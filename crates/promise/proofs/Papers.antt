@@ -13,7 +13,7 @@ use Rattle.rules.specs.declared.Setting.{Setting}
 use Rattle.rules.specs.declared.Triple.{Triple}
 use Rattle.rules.specs.Setting.{topOf, Valid}
 use Rattle.rules.specs.Matrix.{matrixOf}
-use Rattle.rules.specs.Record.{settingOf, pixelIn, acesRecord}
+use Rattle.rules.specs.Record.{settingOf, pixelIn, acesRecord, pixelSize}
 use Rattle.rules.specs.Strip.{records, recordAt, written}
 use Rattle.rules.specs.WayBack.{pixelBy}
 use Rattle.rules.proofs.Search.{same-aces, same-found}
@@ -52,7 +52,7 @@ module _ (number : Setting → ℕ → ℤ) (near : NearestNumbers number) where
       rw (whole-records pixels n a)
       (same-written (λ r. acesRecord (settingOf r) (acesOf (number (settingOf r)) (matrixOf (settingOf r)) (pixelIn r)))
       (λ r. acesRecord (settingOf r) (acesOf (decoded (settingOf r)) (matrixOf (settingOf r)) (pixelIn r)))
-      10 n pixels (λ k l. ap (acesRecord (settingOf (recordAt 10 k pixels))) (same-record (recordAt 10 k pixels) (a .each k l))))
+      pixelSize n pixels (λ k l. ap (acesRecord (settingOf (recordAt pixelSize k pixels))) (same-record (recordAt pixelSize k pixels) (a .each k l))))
 
   -- THE WAY BACK finds the same pixel, or none, for any three numbers
   pub papers-alone-back : (s : Setting) → Valid s → (a : Triple) → pixelBy number s a ≡ pixelFor s a

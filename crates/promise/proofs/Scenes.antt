@@ -16,7 +16,7 @@ use Rattle.rules.specs.declared.Setting.{Setting}
 use Rattle.rules.specs.Setting.{codeCheck, Valid}
 use Rattle.rules.specs.Exact.{scaleOf}
 use Rattle.rules.specs.Decoding.{Decodes}
-use Rattle.rules.specs.Record.{IsBytes, ofBits, sizeOf, codeBytes, numberBytes, settingOf, channelAt}
+use Rattle.rules.specs.Record.{IsBytes, ofBits, sizeOf, codeBytes, numberBytes, settingOf, channelAt, pixelSize, numbersSize}
 use Rattle.rules.specs.Strip.{recordCheck, recordAt, answerOf, outputAfter}
 use Rattle.rules.specs.Result.{stripResult}
 use Rattle.rules.proofs.Records.{length-record}
@@ -28,11 +28,12 @@ use Rattle.record_conversion.specs.Conversions.{sceneBits, codeBits, pixelToSce
 use Rattle.record_conversion.proofs.Good.{Good}
 use Rattle.record_conversion.proofs.Channelwise.{setting-valid, channel-passes, setting-copied, channel-written}
 use Rattle.record_conversion.proofs.SceneBits.{scene-fits, scene-read}
+use Rattle.strip_passes.proofs.Cut.{length-at}
 use Rattle.strip.proofs.First.{all-done}
 use Rattle.strip.proofs.Back.{whole-done}
 use Rattle.promise.specs.Words.{Accepted}
 use Rattle.promise.specs.Scenes.{HoldsScene, AcceptedScenes, EachChannel, IsDecoded, DecodedRecord, IsEncoded, EncodedRecord, ConvertedEach}
-use Rattle.promise.proofs.Strips.{written-at, length-at, bytes-at, accepted-good}
+use Rattle.promise.proofs.Strips.{written-at, bytes-at, accepted-good}
 use Rattle.rules.specs.Conversions.{channelChecks, channelwise, numberCheck}
 
 -- ---- any conversion channel by channel: what is written for a channel that passes fits, and is R to the channel
@@ -86,7 +87,7 @@ scene-decoded s v code e =
 
 -- PIXEL TO SCENE converts an accepted strip, and writes for each record its setting and decoded
 -- numbers of its codes, channel by channel
-pub pixels-decoded : (pixels output : List ℕ) (n : ℕ) → Accepted pixels n → n * 28 ≤ length output → ConvertedEach pixelToScene DecodedRecord pixels output n
+pub pixels-decoded : (pixels output : List ℕ) (n : ℕ) → Accepted pixels n → n * numbersSize ≤ length output → ConvertedEach pixelToScene DecodedRecord pixels output n
 pixels-decoded pixels output n a room =
     strip-each codeBytes numberBytes codeCheck sceneBits IsDecoded scene-fits scene-decoded pixels output n (a .bytes) (a .long)
     (λ k i. accepted-good pixels n a k i .passes) (lit< tt) room
@@ -105,7 +106,7 @@ scene-passes r h = rw (h .valid, h .numbers 0 (lit< tt), h .numbers 1 (lit< tt),
 
 -- SCENE TO PIXEL converts an accepted strip, and writes for each record its setting and the nearest
 -- codes of its numbers, channel by channel
-pub scenes-encoded : (scenes output : List ℕ) (n : ℕ) → AcceptedScenes scenes n → n * 10 ≤ length output → ConvertedEach sceneToPixel EncodedRecord scenes output n
+pub scenes-encoded : (scenes output : List ℕ) (n : ℕ) → AcceptedScenes scenes n → n * pixelSize ≤ length output → ConvertedEach sceneToPixel EncodedRecord scenes output n
 scenes-encoded scenes output n a room =
     strip-each numberBytes codeBytes numberCheck codeBits IsEncoded code-fits code-encoded scenes output n (a .bytes) (a .long)
-    (λ k i. scene-passes (recordAt 28 k scenes) (a .each k i)) (lit< tt) room
+    (λ k i. scene-passes (recordAt numbersSize k scenes) (a .each k i)) (lit< tt) room

@@ -22,7 +22,7 @@ use Rattle.rules.specs.declared.Triple.{Triple}
 use Rattle.rules.specs.Refusal.{then, numberOf, numberOfCheck}
 use Rattle.rules.specs.Setting.{settingCheck, codeCheck, Valid}
 use Rattle.rules.specs.Matrix.{matrixOf, IsAces}
-use Rattle.rules.specs.Record.{IsBytes, toBits, ofBits, numberBytes, codeBytes, settingOf, Channels, channelAt, channelsOf, recordOf, pixelIn, pixelRecord, tripleIn, acesRecord}
+use Rattle.rules.specs.Record.{IsBytes, toBits, ofBits, codeBytes, settingOf, Channels, channelAt, channelsOf, recordOf, pixelIn, pixelRecord, tripleIn, acesRecord, numbersSize, settingBytes, numberBytes}
 use Rattle.rules.specs.Strip.{recordCheck}
 use Rattle.rules.specs.WayBack.{foundCheck}
 use Rattle.rules.proofs.Records.{FitsRecord, value-small, drop-bytes, read-setting, read-channels, write-read, of-to, to-of, bits-fit, length-record}
@@ -33,16 +33,18 @@ use Rattle.aces_inverse.proofs.Inverse.{aces-small}
 use Rattle.decode.proofs.Distance.{decoded-small}
 use Rattle.way_back.specs.Back.{pixelFor}
 use Rattle.way_back.proofs.Theorems.{found-gives, own-found, one-pixel}
+use Rattle.record_conversion.specs.declared.Kind.the-variants.{PixelToAces, AcesToPixel}
 use Rattle.record_conversion.specs.Conversions.{pixelToAces, acesToPixel}
 use Rattle.record_conversion.proofs.Channels.{codes-pixel}
+use Rattle.record_conversion.proofs.EveryKind.{kind-valid}
 use Rattle.record_conversion.proofs.Good.{Good}
 use Rattle.promise.specs.Words.{given, HoldsPixel, Without, OnlyPixel, refusalOf}
 use Rattle.rules.specs.Pixels.{IsPixel}
 use Rattle.rules.specs.Conversions.{channelChecks, pixelFound}
 use Rattle.aces.specs.OfPixel.{pixelAces}
 
--- ---- numbers in eight bytes
-below : (x : ℤ) → natAbs x ≤ 2 ^ 38 → (2 * up x < 256 ^ 8) × (2 * dn x ≤ 256 ^ 8)
+-- ---- numbers in their bytes
+below : (x : ℤ) → natAbs x ≤ 2 ^ 38 → (2 * up x < 256 ^ numberBytes) × (2 * dn x ≤ 256 ^ numberBytes)
 below x h = (omega (arith, abs-is x), omega (arith, abs-is x))
 
 -- the ACES numbers of a pixel are small
@@ -68,9 +70,9 @@ fits-setting r h = record { curve = h 0; width = h 1; ei = value-small 2 (drop 2
 -- ---- what is read of an ACES record that was written
 module _ (s : Setting) (f : FitsSetting s) (a : Triple) (g : Given (a .red .0) (a .green .0) (a .blue .0)) where
   abbrev channels : Channels
-  channels = record { red = toBits 8 (a .red .0); green = toBits 8 (a .green .0); blue = toBits 8 (a .blue .0) }
+  channels = record { red = toBits numberBytes (a .red .0); green = toBits numberBytes (a .green .0); blue = toBits numberBytes (a .blue .0) }
 
-  fits : FitsRecord 8 s channels
+  fits : FitsRecord numberBytes s channels
   fits =
       let r = below (a .red .0) (g .red) in
       let e = below (a .green .0) (g .green) in
@@ -79,36 +81,37 @@ module _ (s : Setting) (f : FitsSetting s) (a : Triple) (g : Given (a .red .0) (
         curve = f .curve;
         width = f .width;
         ei = f .ei;
-        red = bits-fit 8 (a .red .0) (r .0) (r .1);
-        green = bits-fit 8 (a .green .0) (e .0) (e .1);
-        blue = bits-fit 8 (a .blue .0) (b .0) (b .1);
+        red = bits-fit numberBytes (a .red .0) (r .0) (r .1);
+        green = bits-fit numberBytes (a .green .0) (e .0) (e .1);
+        blue = bits-fit numberBytes (a .blue .0) (b .0) (b .1);
       }
 
   pub setting-read : settingOf (acesRecord s a) ≡ s
-  setting-read = read-setting 8 s channels fits
+  setting-read = read-setting numberBytes s channels fits
 
   pub triple-read : tripleIn (acesRecord s a) ≡ a
   triple-read =
-      let e = read-channels 8 s channels fits in
+      let e = read-channels numberBytes s channels fits in
       let r = below (a .red .0) (g .red) in
       let n = below (a .green .0) (g .green) in
       let b = below (a .blue .0) (g .blue) in
-      let er = ap (λ (c : Channels). ofBits 8 (c .red)) e ∙ of-to 8 (a .red .0) (r .0) (r .1) in
-      let eg = ap (λ (c : Channels). ofBits 8 (c .green)) e ∙ of-to 8 (a .green .0) (n .0) (n .1) in
-      let eb = ap (λ (c : Channels). ofBits 8 (c .blue)) e ∙ of-to 8 (a .blue .0) (b .0) (b .1) in
+      let er = ap (λ (c : Channels). ofBits numberBytes (c .red)) e ∙ of-to numberBytes (a .red .0) (r .0) (r .1) in
+      let eg = ap (λ (c : Channels). ofBits numberBytes (c .green)) e ∙ of-to numberBytes (a .green .0) (n .0) (n .1) in
+      let eb = ap (λ (c : Channels). ofBits numberBytes (c .blue)) e ∙ of-to numberBytes (a .blue .0) (b .0) (b .1) in
       λ i. record { red = record { 0 = er i }; green = record { 0 = eg i }; blue = record { 0 = eb i } }
 
 -- ---- an ACES record is the record of its setting and numbers
-pub record-read : (r : List ℕ) → IsBytes r → length r ≡ 28 → acesRecord (settingOf r) (tripleIn r) ≡ r
+pub record-read : (r : List ℕ) → IsBytes r → length r ≡ numbersSize → acesRecord (settingOf r) (tripleIn r) ≡ r
 record-read r h l =
-    let c = channelsOf 8 r in
-    let er = to-of 8 (c .red) (value-small 8 (drop 4 r) (drop-bytes 4 r h)) in
-    let eg = to-of 8 (c .green) (value-small 8 (drop 12 r) (drop-bytes 12 r h)) in
-    let eb = to-of 8 (c .blue) (value-small 8 (drop 20 r) (drop-bytes 20 r h)) in
-    ap (recordOf 8 (settingOf r)) (λ i. record { red = er i; green = eg i; blue = eb i }) ∙ write-read 8 r h l
+    ap (recordOf numberBytes (settingOf r)) (λ i. record { red = bits 0 i; green = bits 1 i; blue = bits 2 i }) ∙ write-read numberBytes r h l
+  where
+    bits : (i : ℕ) → toBits numberBytes (ofBits numberBytes (channelAt numberBytes r i)) ≡ channelAt numberBytes r i
+    bits i =
+        let at : ℕ = settingBytes + i * numberBytes in
+        to-of numberBytes (channelAt numberBytes r i) (value-small numberBytes (drop at r) (drop-bytes at r h))
 
 -- ---- what the way back says of an ACES record
-module _ (r : List ℕ) (h : IsBytes r) (l : length r ≡ 28) where
+module _ (r : List ℕ) (h : IsBytes r) (l : length r ≡ numbersSize) where
   abbrev s : Setting
   s = settingOf r
 
@@ -120,7 +123,7 @@ module _ (r : List ℕ) (h : IsBytes r) (l : length r ≡ 28) where
   record-given p e = ap (acesRecord s) e ∙ record-read r h l
 
   passed-valid : recordCheck acesToPixel r ≡ Passed → Valid s × (foundCheck (pixelFor s (tripleIn r)) ≡ Passed)
-  passed-valid e = both (settingCheck s) (foundCheck (pixelFor s (tripleIn r))) e
+  passed-valid e = let b = both (acesToPixel .setting s) (acesToPixel .inner r) e in (kind-valid AcesToPixel s (b .0), b .1)
 
   -- THE RECORD PASSES: it comes back as the only pixel that gives it
   pub passed-only : recordCheck acesToPixel r ≡ Passed → OnlyPixel r (acesToPixel .bytes r)
@@ -176,8 +179,8 @@ module _ (r : List ℕ) (g : Good pixelToAces r) where
   abbrev setting : Setting
   setting = settingOf r
 
-  checked : (settingCheck setting ≡ Passed) × (channelChecks codeBytes (codeCheck setting) r ≡ Passed)
-  checked = both (settingCheck setting) (channelChecks codeBytes (codeCheck setting) r) (g .passes)
+  checked : Valid setting × (channelChecks codeBytes (codeCheck setting) r ≡ Passed)
+  checked = let b = both (pixelToAces .setting setting) (pixelToAces .inner r) (g .passes) in (kind-valid PixelToAces setting (b .0), b .1)
 
   pixel : IsPixel setting (pixelIn r)
   pixel = codes-pixel setting r (checked .1)

@@ -12,12 +12,12 @@ use Rattle.rules.specs.declared.Answer.the-variants.{Done}
 use Rattle.rules.specs.declared.Check.{Check}
 use Rattle.rules.specs.declared.Check.the-variants.{Passed}
 use Rattle.rules.specs.Setting.{codeCheck}
-use Rattle.rules.specs.Record.{IsBytes, codeBytes, settingOf, channelAt}
+use Rattle.rules.specs.Record.{IsBytes, settingOf, channelAt, pixelSize, numbersSize, numberBytes}
 use Rattle.rules.specs.Strip.{Conversion, recordCheck, records, recordAt, written, scanOf}
 use Rattle.rules.proofs.Records.{take-bytes, drop-bytes, length-record}
 use Rattle.record_conversion.specs.Conversions.{pixelToAces}
 use Rattle.record_conversion.proofs.Good.{Good}
-use Rattle.strip_passes.proofs.Cut.{length-written}
+use Rattle.strip_passes.proofs.Cut.{length-at, length-written}
 use Rattle.strip.proofs.First.{at-start, at-later, all-done}
 use Rattle.strip.proofs.Back.{Whole}
 use Rattle.promise.specs.Words.{Accepted, HoldsPixel, made}
@@ -40,18 +40,11 @@ written-at f to long size (suc n) s rest (suc k) h =
     ∙ written-at f to long size n (drop size s) rest k (omega arith)
     ∙ ap f (sym (at-later size k s))
 
--- the k-th of n records is whole
-pub length-at : (size n k : ℕ) (s : List ℕ) → n * size ≤ length s → k < n → length (recordAt size k s) ≡ size
-length-at size n k s h l =
-    let m : suc k * size ≤ n * size = mul-le-mul-right size l in
-    let e : suc k * size ≡ k * size + size = suc-mul k size in
-    length-take-le size (drop (k * size) s) (rw length-drop (omega arith))
-
 pub bytes-at : (size k : ℕ) (s : List ℕ) → IsBytes s → IsBytes (recordAt size k s)
 bytes-at size k s h = take-bytes size (drop (k * size) s) (drop-bytes (k * size) s h)
 
-pub aces-long : (r : List ℕ) → length (pixelToAces .bytes r) ≡ 28
-aces-long r = length-record 8 (settingOf r) _
+pub aces-long : (r : List ℕ) → length (pixelToAces .bytes r) ≡ numbersSize
+aces-long r = length-record numberBytes (settingOf r) _
 
 -- ---- an accepted strip
 holds-passes : (r : List ℕ) → HoldsPixel r → recordCheck pixelToAces r ≡ Passed
@@ -59,36 +52,36 @@ unfolding channelChecks
 holds-passes r h = rw (h .valid, h .pixel .red, h .pixel .green, h .pixel .blue)
 
 module _ (pixels : List ℕ) (n : ℕ) (a : Accepted pixels n) where
-  pub accepted-good : (k : ℕ) → k < n → Good pixelToAces (recordAt 10 k pixels)
+  pub accepted-good : (k : ℕ) → k < n → Good pixelToAces (recordAt pixelSize k pixels)
   accepted-good k h =
       record {
-        long = length-at 10 n k pixels (le-of-eq (sym (a .long))) h;
-        bytes = bytes-at 10 k pixels (a .bytes);
-        passes = holds-passes (recordAt 10 k pixels) (a .each k h);
+        long = length-at pixelSize n k pixels (le-of-eq (sym (a .long))) h;
+        bytes = bytes-at pixelSize k pixels (a .bytes);
+        passes = holds-passes (recordAt pixelSize k pixels) (a .each k h);
       }
 
   -- is converted whole, with room for n ACES records
-  pub accepted-whole : (output : List ℕ) → n * 28 ≤ length output → Whole pixelToAces pixels output n
+  pub accepted-whole : (output : List ℕ) → n * numbersSize ≤ length output → Whole pixelToAces pixels output n
   accepted-whole output room =
       record {
         long = a .long;
         room = room;
-        passes = sym (all-done (recordCheck pixelToAces) 10 n pixels 0 (λ k h. accepted-good k h .passes) ∙ ap Done (zero-add n));
+        passes = sym (all-done (recordCheck pixelToAces) pixelSize n pixels 0 (λ k h. accepted-good k h .passes) ∙ ap Done (zero-add n));
       }
 
   -- it has n records
-  pub whole-records : length pixels / 10 ≡ n
-  whole-records = ap (λ (m : ℕ). m / 10) (a .long) ∙ mul-div-cancel n (lit< tt)
+  pub whole-records : length pixels / pixelSize ≡ n
+  whole-records = ap (λ (m : ℕ). m / pixelSize) (a .long) ∙ mul-div-cancel n (lit< tt)
 
   -- and its ACES strip too
-  pub made-records : made pixels ≡ written (pixelToAces .bytes) (records 10 n pixels)
-  made-records = ap (λ (m : ℕ). written (pixelToAces .bytes) (records 10 m pixels)) whole-records
+  pub made-records : made pixels ≡ written (pixelToAces .bytes) (records pixelSize n pixels)
+  made-records = ap (λ (m : ℕ). written (pixelToAces .bytes) (records pixelSize m pixels)) whole-records
 
-  pub made-long : length (made pixels) ≡ n * 28
-  made-long = ap length made-records ∙ length-written (pixelToAces .bytes) 28 aces-long 10 n pixels
+  pub made-long : length (made pixels) ≡ n * numbersSize
+  made-long = ap length made-records ∙ length-written (pixelToAces .bytes) numbersSize aces-long pixelSize n pixels
 
   -- the k-th is that of the k-th pixel record
-  pub made-at : (k : ℕ) → k < n → recordAt 28 k (made pixels) ≡ pixelToAces .bytes (recordAt 10 k pixels)
+  pub made-at : (k : ℕ) → k < n → recordAt numbersSize k (made pixels) ≡ pixelToAces .bytes (recordAt pixelSize k pixels)
   made-at k h =
-      ap (recordAt 28 k) (made-records ∙ sym (append-nil (written (pixelToAces .bytes) (records 10 n pixels))))
-      ∙ written-at (pixelToAces .bytes) 28 aces-long 10 n pixels [] k h
+      ap (recordAt numbersSize k) (made-records ∙ sym (append-nil (written (pixelToAces .bytes) (records pixelSize n pixels))))
+      ∙ written-at (pixelToAces .bytes) numbersSize aces-long pixelSize n pixels [] k h

@@ -28,7 +28,7 @@ use Rattle.rules.specs.WayBack.{codesFound, foundCheck}
 use Rattle.rules.specs.Exact.{scaleOf}
 use Rattle.rules.specs.ExactRow.{acesTolerance, WithinRow}
 use Rattle.rules.specs.Matrix.{matrixOf, acesNumber, IsAces}
-use Rattle.rules.specs.Record.{IsBytes, settingOf, pixelIn}
+use Rattle.rules.specs.Record.{IsBytes, settingOf, pixelIn, pixelSize, numbersSize}
 use Rattle.rules.specs.Strip.{Conversion, recordCheck, records, recordAt, written, scanOf, answerOf, outputAfter, resultOf, stripAfter}
 use Rattle.rules.proofs.Results.{number-positive, done-answer, refused-answer}
 use Rattle.rules.proofs.Settings.{code-passed, refused-never}
@@ -39,6 +39,7 @@ use Rattle.aces.proofs.Theorems.{aces-within, equal-codes}
 use Rattle.record_conversion.specs.Conversions.{pixelToAces, acesToPixel}
 use Rattle.record_conversion.proofs.Good.{Good}
 use Rattle.strip_passes.proofs.FirstPass.{scan-passes, counted}
+use Rattle.strip_passes.proofs.Cut.{length-at}
 use Rattle.strip.proofs.First.{FirstRefused, all-done, first-answered, answered-first}
 use Rattle.strip.proofs.Join.{whole-answer}
 use Rattle.strip.proofs.Back as back
@@ -46,7 +47,7 @@ use Rattle.way_back.specs.Back.{pixelFor, wayBackResult}
 use Rattle.way_back.proofs.Theorems.{found-gives, one-pixel, nothing-gives}
 use Rattle.promise.specs.Words.{Accepted, HoldsPixel, IsGrey, made, numberIn, NearExact, Without, OnlyPixel, SomeWithout, FirstWithout, refusalOf, refusedAt, ReportsFirst, WithoutPixel, IsOnlyPixel, GivesOnly}
 use Rattle.promise.proofs.Single.{same-triple, back-passes, back-same, passed-only, not-both, refused-without, refusal-number}
-use Rattle.promise.proofs.Strips.{written-at, length-at, bytes-at, aces-long, accepted-good, accepted-whole, made-records, made-long, made-at}
+use Rattle.promise.proofs.Strips.{written-at, bytes-at, aces-long, accepted-good, accepted-whole, made-records, made-long, made-at}
 
 taken-back : (r : List ℕ) → Good pixelToAces r → (recordCheck acesToPixel (pixelToAces .bytes r) ≡ check.Check.Passed) × (acesToPixel .bytes (pixelToAces .bytes r) ≡ r)
 taken-back r g = (back-passes r g, back-same r g)
@@ -61,12 +62,12 @@ called : (c : Conversion) (input output : List ℕ) (n : ℕ) (after : List ℕ)
 called c input output n after e w = (ap stripResult (sym e), ap (outputAfter c input output) (sym e) ∙ w)
 
 -- what pixel to ACES writes for an accepted strip, into an output long enough, is the ACES strip made from it; the bytes beyond are as they were
-pub made-is-written : (pixels output : List ℕ) (n : ℕ) → Accepted pixels n → n * 28 ≤ length output
-    → (resultOf pixelToAces pixels output ≡ done (n ∷ [])) × (stripAfter pixelToAces pixels output ≡ made pixels ++ drop (n * 28) output)
+pub made-is-written : (pixels output : List ℕ) (n : ℕ) → Accepted pixels n → n * numbersSize ≤ length output
+    → (resultOf pixelToAces pixels output ≡ done (n ∷ [])) × (stripAfter pixelToAces pixels output ≡ made pixels ++ drop (n * numbersSize) output)
 unfolding outputAfter
 made-is-written pixels output n a room =
-    called pixelToAces pixels output n (made pixels ++ drop (n * 28) output) (back.whole-done pixelToAces pixels output n (lit< tt) (accepted-whole pixels n a output room))
-    (ap (λ (l : List ℕ). l ++ drop (n * 28) output) (sym (made-records pixels n a)))
+    called pixelToAces pixels output n (made pixels ++ drop (n * numbersSize) output) (back.whole-done pixelToAces pixels output n (lit< tt) (accepted-whole pixels n a output room))
+    (ap (λ (l : List ℕ). l ++ drop (n * numbersSize) output) (sym (made-records pixels n a)))
 
 -- 1. "For any two accepted pixel strips, the strips are equal exactly when the ACES strips made from them are equal."
 pub equal-strips : (pixels others : List ℕ) (n m : ℕ) → Accepted pixels n → Accepted others m → (pixels ≡ others) ↔ (made pixels ≡ made others)
@@ -78,7 +79,7 @@ equal-strips pixels others n m a b = (λ e. ap made e, back-equal)
     back-equal : made pixels ≡ made others → pixels ≡ others
     back-equal e =
         let c = subst (Accepted others) (count e) b in
-        back.same-strip pixelToAces aces-long (acesToPixel .inner) (acesToPixel .bytes) taken-back pixels others (made pixels) (made others) n (a .bytes) (b .bytes)
+        back.same-strip pixelToAces aces-long acesToPixel taken-back pixels others (made pixels) (made others) n (a .bytes) (b .bytes)
         (accepted-whole pixels n a (made pixels) (le-of-eq (sym (made-long pixels n a))))
         (accepted-whole others n c (made others) (le-of-eq (sym (made-long others n c))))
         (sym (made-records pixels n a) ∙ e ∙ made-records others n c)
@@ -101,9 +102,9 @@ record-within r g h i l =
     s : Setting
     s = settingOf r
 
-pub strip-within : (pixels : List ℕ) (n : ℕ) → Accepted pixels n → (k : ℕ) → k < n → (i : ℕ) → i < 3 → NearExact i (recordAt 10 k pixels) (recordAt 28 k (made pixels))
+pub strip-within : (pixels : List ℕ) (n : ℕ) → Accepted pixels n → (k : ℕ) → k < n → (i : ℕ) → i < 3 → NearExact i (recordAt pixelSize k pixels) (recordAt numbersSize k (made pixels))
 strip-within pixels n a k h i l =
-    subst (NearExact i (recordAt 10 k pixels)) (sym (made-at pixels n a k h)) (record-within (recordAt 10 k pixels) (accepted-good pixels n a k h) (a .each k h) i l)
+    subst (NearExact i (recordAt pixelSize k pixels)) (sym (made-at pixels n a k h)) (record-within (recordAt pixelSize k pixels) (accepted-good pixels n a k h) (a .each k h) i l)
 
 -- DEMAND 2, "three equal codes give three equal ACES numbers", of what the strip holds: each is the code's decoded number
 record-grey : (r : List ℕ) → Good pixelToAces r → HoldsPixel r → (c : ℕ) → IsGrey r c → (i : ℕ) → i < 3 → numberIn i (pixelToAces .bytes r) ≡ decoded (settingOf r) c
@@ -122,9 +123,9 @@ record-grey r g h c e i l =
     grey (suc (suc zero)) l d = sym (d .blue-is)
     grey (suc (suc (suc i))) l d = absurd (omega arith)
 
-pub strip-grey : (pixels : List ℕ) (n : ℕ) → Accepted pixels n → (k : ℕ) → k < n → (c : ℕ) → IsGrey (recordAt 10 k pixels) c
-    → (i : ℕ) → i < 3 → numberIn i (recordAt 28 k (made pixels)) ≡ decoded (settingOf (recordAt 10 k pixels)) c
-strip-grey pixels n a k h c e i l = ap (numberIn i) (made-at pixels n a k h) ∙ record-grey (recordAt 10 k pixels) (accepted-good pixels n a k h) (a .each k h) c e i l
+pub strip-grey : (pixels : List ℕ) (n : ℕ) → Accepted pixels n → (k : ℕ) → k < n → (c : ℕ) → IsGrey (recordAt pixelSize k pixels) c
+    → (i : ℕ) → i < 3 → numberIn i (recordAt numbersSize k (made pixels)) ≡ decoded (settingOf (recordAt pixelSize k pixels)) c
+strip-grey pixels n a k h c e i l = ap (numberIn i) (made-at pixels n a k h) ∙ record-grey (recordAt pixelSize k pixels) (accepted-good pixels n a k h) (a .each k h) c e i l
 
 -- 3. "The way back, given an output long enough, turns the ACES strip made from it into the same pixel strip, byte for byte, and reports its number
 -- of records."
@@ -133,10 +134,10 @@ pub way-back-returns : (pixels output : List ℕ) (n : ℕ) → Accepted pixels 
 way-back-returns pixels output n a room =
     let w = accepted-whole pixels n a (made pixels) (le-of-eq (sym (made-long pixels n a))) in
     rw (made-records pixels n a)
-    (called acesToPixel (written (pixelToAces .bytes) (records 10 n pixels)) output n (pixels ++ drop (length pixels) output)
-    (back.whole-done acesToPixel (written (pixelToAces .bytes) (records 10 n pixels)) output n (lit< tt)
-    (back.back-whole pixelToAces aces-long (acesToPixel .inner) (acesToPixel .bytes) taken-back pixels (made pixels) n (a .bytes) w output room))
-    (back.back-written pixelToAces aces-long (acesToPixel .inner) (acesToPixel .bytes) taken-back pixels (made pixels) n (a .bytes) w output))
+    (called acesToPixel (written (pixelToAces .bytes) (records pixelSize n pixels)) output n (pixels ++ drop (length pixels) output)
+    (back.whole-done acesToPixel (written (pixelToAces .bytes) (records pixelSize n pixels)) output n (lit< tt)
+    (back.back-whole pixelToAces aces-long acesToPixel taken-back pixels (made pixels) n (a .bytes) w output room))
+    (back.back-written pixelToAces aces-long acesToPixel taken-back pixels (made pixels) n (a .bytes) w output))
 
 refusal-positive : (s : Setting) → 0 < refusalOf s
 refusal-positive s = go (settingCheck s)
@@ -146,23 +147,23 @@ refusal-positive s = go (settingCheck s)
     go (check.Check.Refused why) = number-positive why
 
 -- ---- any strip of n ACES records, with an output long enough
-module _ (aces output : List ℕ) (n : ℕ) (h : IsBytes aces) (l : length aces ≡ n * 28) (room : n * 10 ≤ length output) where
-  whole-at : (k : ℕ) → k < n → length (recordAt 28 k aces) ≡ 28
-  whole-at k i = length-at 28 n k aces (le-of-eq (sym l)) i
+module _ (aces output : List ℕ) (n : ℕ) (h : IsBytes aces) (l : length aces ≡ n * numbersSize) (room : n * pixelSize ≤ length output) where
+  whole-at : (k : ℕ) → k < n → length (recordAt numbersSize k aces) ≡ numbersSize
+  whole-at k i = length-at numbersSize n k aces (le-of-eq (sym l)) i
 
   scanned : answerOf acesToPixel aces output ≡ scanOf acesToPixel n aces
   scanned = whole-answer acesToPixel aces output n (lit< tt) l room
 
-  converted-passes : resultOf acesToPixel aces output ≡ done (n ∷ []) → (k : ℕ) → k < n → recordCheck acesToPixel (recordAt 28 k aces) ≡ check.Check.Passed
-  converted-passes e k i = scan-passes (recordCheck acesToPixel) 28 n aces 0 n (done-answer (answerOf acesToPixel aces output) n e ∙ scanned) k i
+  converted-passes : resultOf acesToPixel aces output ≡ done (n ∷ []) → (k : ℕ) → k < n → recordCheck acesToPixel (recordAt numbersSize k aces) ≡ check.Check.Passed
+  converted-passes e k i = scan-passes (recordCheck acesToPixel) numbersSize n aces 0 n (done-answer (answerOf acesToPixel aces output) n e ∙ scanned) k i
 
   -- a record that is not without a pixel passes
-  with-pixel : (k : ℕ) → k < n → (Without (recordAt 28 k aces) → ⊥) → recordCheck acesToPixel (recordAt 28 k aces) ≡ check.Check.Passed
-  with-pixel k i never = go (recordCheck acesToPixel (recordAt 28 k aces)) refl
+  with-pixel : (k : ℕ) → k < n → (Without (recordAt numbersSize k aces) → ⊥) → recordCheck acesToPixel (recordAt numbersSize k aces) ≡ check.Check.Passed
+  with-pixel k i never = go (recordCheck acesToPixel (recordAt numbersSize k aces)) refl
     where
-      go : (x : Check) → recordCheck acesToPixel (recordAt 28 k aces) ≡ x → x ≡ check.Check.Passed
+      go : (x : Check) → recordCheck acesToPixel (recordAt numbersSize k aces) ≡ x → x ≡ check.Check.Passed
       go check.Check.Passed e = refl
-      go (check.Check.Refused why) e = absurd (never (refused-without (recordAt 28 k aces) (bytes-at 28 k aces h) (whole-at k i) why e))
+      go (check.Check.Refused why) e = absurd (never (refused-without (recordAt numbersSize k aces) (bytes-at numbersSize k aces h) (whole-at k i) why e))
 
   -- 4. "it refuses exactly when some record has no valid setting or no pixel of its setting gives it, and it reports the first such record":
   -- the number and the index that are reported
@@ -172,31 +173,31 @@ module _ (aces output : List ℕ) (n : ℕ) (h : IsBytes aces) (l : length aces 
       forth : resultOf acesToPixel aces output ≡ refusedAt aces k → FirstWithout aces n k
       forth e =
           let r = refused-answer (answerOf acesToPixel aces output) _ k e in
-          let f = answered-first (recordCheck acesToPixel) 28 n aces k (r .why) (sym scanned ∙ r .is) in
+          let f = answered-first (recordCheck acesToPixel) numbersSize n aces k (r .why) (sym scanned ∙ r .is) in
           record {
             in-range = f .in-range;
-            without = refused-without (recordAt 28 k aces) (bytes-at 28 k aces h) (whole-at k (f .in-range)) (r .why) (f .refused);
-            before = λ j i w. not-both (recordAt 28 j aces) (bytes-at 28 j aces h) (whole-at j (omega (arith, f .in-range))) w (f .before j i);
+            without = refused-without (recordAt numbersSize k aces) (bytes-at numbersSize k aces h) (whole-at k (f .in-range)) (r .why) (f .refused);
+            before = λ j i w. not-both (recordAt numbersSize j aces) (bytes-at numbersSize j aces h) (whole-at j (omega (arith, f .in-range))) w (f .before j i);
           }
 
       back-again : FirstWithout aces n k → resultOf acesToPixel aces output ≡ refusedAt aces k
-      back-again f = go (recordCheck acesToPixel (recordAt 28 k aces)) refl
+      back-again f = go (recordCheck acesToPixel (recordAt numbersSize k aces)) refl
         where
-          go : (x : Check) → recordCheck acesToPixel (recordAt 28 k aces) ≡ x → resultOf acesToPixel aces output ≡ refusedAt aces k
-          go check.Check.Passed e = absurd (not-both (recordAt 28 k aces) (bytes-at 28 k aces h) (whole-at k (f .in-range)) (f .without) e)
+          go : (x : Check) → recordCheck acesToPixel (recordAt numbersSize k aces) ≡ x → resultOf acesToPixel aces output ≡ refusedAt aces k
+          go check.Check.Passed e = absurd (not-both (recordAt numbersSize k aces) (bytes-at numbersSize k aces h) (whole-at k (f .in-range)) (f .without) e)
           go (check.Check.Refused why) e =
               ap stripResult
               (scanned
-              ∙ first-answered (recordCheck acesToPixel) 28 n aces 0 k why
+              ∙ first-answered (recordCheck acesToPixel) numbersSize n aces 0 k why
               (record { in-range = f .in-range; refused = e; before = λ j i. with-pixel j (omega (arith, f .in-range)) (f .before j i) })
               ∙ ap (Refused why) (zero-add k))
-              ∙ ap (λ (m : ℕ). refusedBy m k) (refusal-number (recordAt 28 k aces) why e)
+              ∙ ap (λ (m : ℕ). refusedBy m k) (refusal-number (recordAt numbersSize k aces) why e)
 
   -- it converts exactly when every record is given by a pixel
-  pub converts-exactly : (resultOf acesToPixel aces output ≡ done (n ∷ [])) ↔ ((k : ℕ) → k < n → Without (recordAt 28 k aces) → ⊥)
+  pub converts-exactly : (resultOf acesToPixel aces output ≡ done (n ∷ [])) ↔ ((k : ℕ) → k < n → Without (recordAt numbersSize k aces) → ⊥)
   converts-exactly = (
-    λ e k i w. not-both (recordAt 28 k aces) (bytes-at 28 k aces h) (whole-at k i) w (converted-passes e k i),
-    λ never. ap stripResult (scanned ∙ all-done (recordCheck acesToPixel) 28 n aces 0 (λ k i. with-pixel k i (never k i)) ∙ ap Done (zero-add n)),
+    λ e k i w. not-both (recordAt numbersSize k aces) (bytes-at numbersSize k aces h) (whole-at k i) w (converted-passes e k i),
+    λ never. ap stripResult (scanned ∙ all-done (recordCheck acesToPixel) numbersSize n aces 0 (λ k i. with-pixel k i (never k i)) ∙ ap Done (zero-add n)),
   )
 
   -- some record is without a pixel: then it refuses, and reports the first
@@ -206,30 +207,30 @@ module _ (aces output : List ℕ) (n : ℕ) (h : IsBytes aces) (l : length aces 
       go : (a : Answer) → answerOf acesToPixel aces output ≡ a → ReportsFirst aces n (resultOf acesToPixel aces output)
       go (Done m) e =
           absurd
-          (not-both (recordAt 28 (w .at) aces) (bytes-at 28 (w .at) aces h) (whole-at (w .at) (w .in-range)) (w .without)
-          (scan-passes (recordCheck acesToPixel) 28 n aces 0 m (sym e ∙ scanned) (w .at) (w .in-range)))
+          (not-both (recordAt numbersSize (w .at) aces) (bytes-at numbersSize (w .at) aces h) (whole-at (w .at) (w .in-range)) (w .without)
+          (scan-passes (recordCheck acesToPixel) numbersSize n aces 0 m (sym e ∙ scanned) (w .at) (w .in-range)))
       go (Refused why k) e =
-          let f = answered-first (recordCheck acesToPixel) 28 n aces k why (sym scanned ∙ e) in
-          let r : resultOf acesToPixel aces output ≡ refusedAt aces k = ap stripResult e ∙ ap (λ (m : ℕ). refusedBy m k) (refusal-number (recordAt 28 k aces) why (f .refused)) in
+          let f = answered-first (recordCheck acesToPixel) numbersSize n aces k why (sym scanned ∙ e) in
+          let r : resultOf acesToPixel aces output ≡ refusedAt aces k = ap stripResult e ∙ ap (λ (m : ℕ). refusedBy m k) (refusal-number (recordAt numbersSize k aces) why (f .refused)) in
           record { at = k; reported = r; first = refuses-first k .0 r }
 
   -- THE SENTENCE, of the whole strip: it refuses exactly when some record is without a pixel
   pub refuses-exactly : (0 < resultOf acesToPixel aces output .number) ↔ SomeWithout aces n
-  refuses-exactly = (go (answerOf acesToPixel aces output) refl, λ w. let r = reports-first w in subst (λ (x : Result ℕ). 0 < x .number) (sym (r .reported)) (refusal-positive (settingOf (recordAt 28 (r .at) aces))))
+  refuses-exactly = (go (answerOf acesToPixel aces output) refl, λ w. let r = reports-first w in subst (λ (x : Result ℕ). 0 < x .number) (sym (r .reported)) (refusal-positive (settingOf (recordAt numbersSize (r .at) aces))))
     where
       go : (a : Answer) → answerOf acesToPixel aces output ≡ a → 0 < stripResult a .number → SomeWithout aces n
       go (Done m) e p = absurd (omega arith)
       go (Refused why k) e p =
-          let f = answered-first (recordCheck acesToPixel) 28 n aces k why (sym scanned ∙ e) in
-          record { at = k; in-range = f .in-range; without = refused-without (recordAt 28 k aces) (bytes-at 28 k aces h) (whole-at k (f .in-range)) why (f .refused) }
+          let f = answered-first (recordCheck acesToPixel) numbersSize n aces k why (sym scanned ∙ e) in
+          record { at = k; in-range = f .in-range; without = refused-without (recordAt numbersSize k aces) (bytes-at numbersSize k aces h) (whole-at k (f .in-range)) why (f .refused) }
 
   -- 5. where it does not refuse, "each record comes back as the only pixel of its setting that gives it"
-  pub comes-back : resultOf acesToPixel aces output ≡ done (n ∷ []) → (k : ℕ) → k < n → OnlyPixel (recordAt 28 k aces) (recordAt 10 k (stripAfter acesToPixel aces output))
+  pub comes-back : resultOf acesToPixel aces output ≡ done (n ∷ []) → (k : ℕ) → k < n → OnlyPixel (recordAt numbersSize k aces) (recordAt pixelSize k (stripAfter acesToPixel aces output))
   unfolding outputAfter
   comes-back e k i =
-      subst (OnlyPixel (recordAt 28 k aces))
-      (sym (ap (λ (a : Answer). recordAt 10 k (outputAfter acesToPixel aces output a)) (sym (done-answer (answerOf acesToPixel aces output) n e)) ∙ written-at (acesToPixel .bytes) 10 (λ r. length-record 2 (settingOf r) _) 28 n aces (drop (n * 10) output) k i))
-      (passed-only (recordAt 28 k aces) (bytes-at 28 k aces h) (whole-at k i) (converted-passes e k i))
+      subst (OnlyPixel (recordAt numbersSize k aces))
+      (sym (ap (λ (a : Answer). recordAt pixelSize k (outputAfter acesToPixel aces output a)) (sym (done-answer (answerOf acesToPixel aces output) n e)) ∙ written-at (acesToPixel .bytes) pixelSize (λ r. length-record 2 (settingOf r) _) numbersSize n aces (drop (n * pixelSize) output) k i))
+      (passed-only (recordAt numbersSize k aces) (bytes-at numbersSize k aces h) (whole-at k i) (converted-passes e k i))
 
 -- ---- any one ACES record: any setting bytes, any three numbers
 module _ (s : Setting) (a : Triple) where

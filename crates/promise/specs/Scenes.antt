@@ -13,7 +13,7 @@ use Rattle.rules.specs.Result.{done}
 use Rattle.rules.specs.Exact.{scaleOf}
 use Rattle.rules.specs.Decoding.{Decodes}
 use Rattle.rules.specs.Encoding.{sceneCheck}
-use Rattle.rules.specs.Record.{IsBytes, codeBytes, numberBytes, ofBits, settingOf, channelAt}
+use Rattle.rules.specs.Record.{IsBytes, codeBytes, numberBytes, ofBits, settingOf, channelAt, numbersSize}
 use Rattle.rules.specs.Strip.{Conversion, recordAt, resultOf, stripAfter}
 use Rattle.decode.specs.Decoded.{decoded}
 
@@ -25,8 +25,8 @@ pub record HoldsScene (r : List ℕ) : Type 0 where
 
 pub record AcceptedScenes (scenes : List ℕ) (n : ℕ) : Type 0 where
   pub bytes : IsBytes scenes
-  pub long : length scenes ≡ n * 28
-  pub each : (k : ℕ) → k < n → HoldsScene (recordAt 28 k scenes)
+  pub long : length scenes ≡ n * numbersSize
+  pub each : (k : ℕ) → k < n → HoldsScene (recordAt numbersSize k scenes)
 
 -- what a record r with channels of a bytes became, with channels of b bytes: "A conversion copies
 -- the setting", and each channel is R to the same channel of r

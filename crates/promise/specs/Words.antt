@@ -16,7 +16,7 @@ use Rattle.rules.specs.Setting.{settingCheck, Valid}
 use Rattle.rules.specs.Exact.{scaleOf}
 use Rattle.rules.specs.ExactRow.{acesTolerance, WithinRow}
 use Rattle.rules.specs.Matrix.{matrixOf}
-use Rattle.rules.specs.Record.{IsBytes, numberBytes, ofBits, settingOf, channelAt, pixelIn, pixelRecord, acesRecord}
+use Rattle.rules.specs.Record.{IsBytes, numberBytes, ofBits, settingOf, channelAt, pixelIn, pixelRecord, acesRecord, pixelSize, numbersSize}
 use Rattle.rules.specs.Conversions.{pixelToAces}
 use Rattle.rules.specs.Strip.{records, recordAt, written}
 use Rattle.decode.specs.Decoded.{decoded}
@@ -34,13 +34,13 @@ pub record HoldsPixel (r : List ℕ) : Type 0 where
 
 pub record Accepted (pixels : List ℕ) (n : ℕ) : Type 0 where
   pub bytes : IsBytes pixels
-  pub long : length pixels ≡ n * 10
-  pub each : (k : ℕ) → k < n → HoldsPixel (recordAt 10 k pixels)
+  pub long : length pixels ≡ n * pixelSize
+  pub each : (k : ℕ) → k < n → HoldsPixel (recordAt pixelSize k pixels)
 
 -- the ACES strip that numbers of the codes make of a pixel strip: "one record for each of its records, in order, without the bytes beyond
 -- the last"
 abbrev pub madeBy : (number : Setting → ℕ → ℤ) → List ℕ → List ℕ
-madeBy number pixels = written (pixelToAces number .bytes) (records 10 (length pixels / 10) pixels)
+madeBy number pixels = written (pixelToAces number .bytes) (records pixelSize (length pixels / pixelSize) pixels)
 
 -- "The ACES strip made from it": by the decoded numbers. (That it is "what pixel to ACES writes for it into an output long enough" is the
 -- theorem made-is-written.)
@@ -84,17 +84,17 @@ refusalOf s = numberOfCheck (then (settingCheck s) (Refused NoPixel))
 pub record SomeWithout (aces : List ℕ) (n : ℕ) : Type 0 where
   pub at : ℕ
   pub in-range : at < n
-  pub without : Without (recordAt 28 at aces)
+  pub without : Without (recordAt numbersSize at aces)
 
 -- the k-th of n records is the first such
 pub record FirstWithout (aces : List ℕ) (n k : ℕ) : Type 0 where
   pub in-range : k < n
-  pub without : Without (recordAt 28 k aces)
-  pub before : (j : ℕ) → j < k → Without (recordAt 28 j aces) → ⊥
+  pub without : Without (recordAt numbersSize k aces)
+  pub before : (j : ℕ) → j < k → Without (recordAt numbersSize j aces) → ⊥
 
 -- a call that refuses, "and it reports the first such record": its number and its index
 abbrev pub refusedAt : (aces : List ℕ) (k : ℕ) → Result ℕ
-refusedAt aces k = refusedBy (refusalOf (settingOf (recordAt 28 k aces))) k
+refusedAt aces k = refusedBy (refusalOf (settingOf (recordAt numbersSize k aces))) k
 
 pub record ReportsFirst (aces : List ℕ) (n : ℕ) (result : Result ℕ) : Type 0 where
   pub at : ℕ

@@ -1,24 +1,34 @@
--- What holds of every conversion: a record is longer than its setting, and what is written has the length that is said.
+-- What holds of every conversion: a setting that passes is valid, a record is longer than its setting, and what is written has the length that
+-- is said.
 -- Assumes nothing.
 use mathlib.Core.Path.{_≡_}
 use mathlib.Core.List.{List}
-use Prim.Native.Nat.{ℕ, _<_}
-use lib.Dec.{lit<}
+use Prim.Native.Nat.{ℕ, _≤_}
+use lib.Dec.{lit≤}
 use lib.ListN.{length}
-use Rattle.rules.specs.Record.{settingOf}
+use Rattle.rules.specs.declared.Check.the-variants.{Passed}
+use Rattle.rules.specs.declared.Setting.{Setting}
+use Rattle.rules.specs.Record.{settingOf, settingBytes, codeBytes, numberBytes}
+use Rattle.rules.specs.Setting.{Valid}
 use Rattle.rules.proofs.Records.{length-record}
 use Rattle.record_conversion.specs.declared.Kind.{Kind}
 use Rattle.record_conversion.specs.declared.Kind.the-variants.{PixelToScene, SceneToPixel, PixelToAces, AcesToPixel}
 use Rattle.record_conversion.specs.Conversions.{conversionOf}
 
-pub from-large : (k : Kind) → 3 < conversionOf k .from
-from-large PixelToScene = lit< tt
-from-large SceneToPixel = lit< tt
-from-large PixelToAces = lit< tt
-from-large AcesToPixel = lit< tt
+pub kind-valid : (k : Kind) (s : Setting) → conversionOf k .setting s ≡ Passed → Valid s
+kind-valid PixelToScene s e = e
+kind-valid SceneToPixel s e = e
+kind-valid PixelToAces s e = e
+kind-valid AcesToPixel s e = e
+
+pub from-large : (k : Kind) → settingBytes ≤ conversionOf k .from
+from-large PixelToScene = lit≤ tt
+from-large SceneToPixel = lit≤ tt
+from-large PixelToAces = lit≤ tt
+from-large AcesToPixel = lit≤ tt
 
 pub kind-long : (k : Kind) (r : List ℕ) → length (conversionOf k .bytes r) ≡ conversionOf k .to
-kind-long PixelToScene r = length-record 8 (settingOf r) _
-kind-long SceneToPixel r = length-record 2 (settingOf r) _
-kind-long PixelToAces r = length-record 8 (settingOf r) _
-kind-long AcesToPixel r = length-record 2 (settingOf r) _
+kind-long PixelToScene r = length-record numberBytes (settingOf r) _
+kind-long SceneToPixel r = length-record codeBytes (settingOf r) _
+kind-long PixelToAces r = length-record numberBytes (settingOf r) _
+kind-long AcesToPixel r = length-record codeBytes (settingOf r) _

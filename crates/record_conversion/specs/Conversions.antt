@@ -1,6 +1,9 @@
 -- The conversions of the rules, with the decoded numbers put in.
 -- Assumes nothing.
+use mathlib.Core.List.{List}
 use Prim.Native.Nat.{ℕ}
+use Rattle.rules.specs.declared.Check.{Check}
+use Rattle.rules.specs.declared.Check.the-variants.{Passed, Refused}
 use Rattle.rules.specs.declared.Setting.{Setting}
 use Rattle.rules.specs.Conversions as rules
 use Rattle.rules.specs.Strip.{Conversion}
@@ -32,3 +35,8 @@ conversionOf PixelToScene = pixelToScene
 conversionOf SceneToPixel = sceneToPixel
 conversionOf PixelToAces = pixelToAces
 conversionOf AcesToPixel = acesToPixel
+
+-- the stretch of a record after its check: what is written for it where it passes, else what stood there
+abbrev pub stretchAfter : Check → (bytes out : List ℕ) → List ℕ
+stretchAfter Passed bytes out = bytes
+stretchAfter (Refused why) bytes out = out

@@ -6,7 +6,7 @@ ghost use Rattle.rules.specs.Setting.{codeCheck};
 ghost use Rattle.rules.specs.WayBack.{foundCheck};
 ghost use Rattle.decode.specs.Ready.{Ready};
 ghost use Rattle.way_back.specs.Back.{pixelFor};
-ghost use Rattle.rules.specs.Record.{pixelIn, pixelRecord, tripleIn, acesRecord};
+ghost use Rattle.rules.specs.Record.{pixelIn, pixelRecord, tripleIn, acesRecord, codeBytes, pixelSize, numbersSize};
 ghost use Rattle.rules.specs.Conversions.{channelChecks, pixelFound};
 ghost use Rattle.aces.specs.OfPixel.{pixelAces};
 use decode::decoder::Decoder;
@@ -16,9 +16,9 @@ use rules::Setting;
 // What is written for a pixel record: its ACES record.
 pub fn write_triple(s: Setting, d: Decoder, t: &[u64; 128], r: &[u8], out: &mut [u8])
     requires { ⌜ Ready s d (now t) ⌝ }
-    requires { ⌜ length (now r) ≡ 10 ⌝ }
-    requires { ⌜ channelChecks 2 (codeCheck s) (now r) ≡ Passed ⌝ }
-    requires { ⌜ length (now out) ≡ 28 ⌝ }
+    requires { ⌜ length (now r) ≡ pixelSize ⌝ }
+    requires { ⌜ channelChecks codeBytes (codeCheck s) (now r) ≡ Passed ⌝ }
+    requires { ⌜ length (now out) ≡ numbersSize ⌝ }
     ensures { λ _. ⌜ now (out .exit) ≡ acesRecord s (pixelAces s (pixelIn (now (r .entry)))) ⌝ }
 {
     let a = aces::of_pixel(s, d, t, records::pixel_in(r));
@@ -28,7 +28,7 @@ pub fn write_triple(s: Setting, d: Decoder, t: &[u64; 128], r: &[u8], out: &mut 
 // The check of an ACES record: refusal 10.
 pub fn check_triple(s: Setting, d: Decoder, t: &[u64; 128], r: &[u8]) -> Check
     requires { ⌜ Ready s d (now t) ⌝ }
-    requires { ⌜ length (now r) ≡ 28 ⌝ }
+    requires { ⌜ length (now r) ≡ numbersSize ⌝ }
     ensures { λ x. ⌜ x ≡ foundCheck (pixelFor s (tripleIn (now (r .entry)))) ⌝ }
 {
     way_back::check_aces(s, d, t, records::triple_in(r))
@@ -37,9 +37,9 @@ pub fn check_triple(s: Setting, d: Decoder, t: &[u64; 128], r: &[u8]) -> Check
 // What is written for an ACES record that passes: the record of the pixel that gives it.
 pub fn write_back(s: Setting, d: Decoder, t: &[u64; 128], r: &[u8], out: &mut [u8])
     requires { ⌜ Ready s d (now t) ⌝ }
-    requires { ⌜ length (now r) ≡ 28 ⌝ }
+    requires { ⌜ length (now r) ≡ numbersSize ⌝ }
     requires { ⌜ foundCheck (pixelFor s (tripleIn (now r))) ≡ Passed ⌝ }
-    requires { ⌜ length (now out) ≡ 10 ⌝ }
+    requires { ⌜ length (now out) ≡ pixelSize ⌝ }
     ensures { λ _. ⌜ now (out .exit) ≡ pixelRecord s (pixelFound (pixelFor s (tripleIn (now (r .entry))))) ⌝ }
 {
     let p = way_back::pixel_of(s, d, t, records::triple_in(r));

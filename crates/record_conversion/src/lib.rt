@@ -1,18 +1,22 @@
-// The conversions of one record: what each checks of it after its setting's checks, and what it writes for it.
+// The conversions of one record: what each checks of its setting and of the record after it, and what it writes for it.
 ghost use mathlib.Core.Path.{_≡_};
 ghost use Prim.Native.Nat.{_<_};
 ghost use lib.ListN.{length};
 ghost use Rattle.rules.specs.declared.Check.the-variants.{Passed};
 ghost use Rattle.rules.specs.Record.{settingOf};
 ghost use Rattle.decode.specs.Ready.{Ready};
-ghost use Rattle.record_conversion.specs.Conversions.{conversionOf};
+ghost use Rattle.record_conversion.specs.Conversions.{acesToPixel, conversionOf, stretchAfter};
 
 mod aces_record;
 mod pixel;
 mod scene;
 
 use decode::decoder::Decoder;
+use records::NUMBERS_SIZE;
+use records::PIXEL_SIZE;
 use rules::Check;
+use rules::Found;
+use rules::Refusal;
 use rules::Setting;
 
 // Which conversion.
@@ -28,10 +32,10 @@ pub fn size_from(k: Kind) -> usize
     ensures { λ r. ⌜ (r ≡ conversionOf k .from) × (0 < r) × (r < 100) ⌝ }
 {
     match k {
-        Kind::PixelToScene => 10,
-        Kind::SceneToPixel => 28,
-        Kind::PixelToAces => 10,
-        Kind::AcesToPixel => 28,
+        Kind::PixelToScene => PIXEL_SIZE,
+        Kind::SceneToPixel => NUMBERS_SIZE,
+        Kind::PixelToAces => PIXEL_SIZE,
+        Kind::AcesToPixel => NUMBERS_SIZE,
     }
 }
 
@@ -39,10 +43,22 @@ pub fn size_to(k: Kind) -> usize
     ensures { λ r. ⌜ (r ≡ conversionOf k .to) × (0 < r) × (r < 100) ⌝ }
 {
     match k {
-        Kind::PixelToScene => 28,
-        Kind::SceneToPixel => 10,
-        Kind::PixelToAces => 28,
-        Kind::AcesToPixel => 10,
+        Kind::PixelToScene => NUMBERS_SIZE,
+        Kind::SceneToPixel => PIXEL_SIZE,
+        Kind::PixelToAces => NUMBERS_SIZE,
+        Kind::AcesToPixel => PIXEL_SIZE,
+    }
+}
+
+// The checks of a record's setting.
+pub fn check_setting(k: Kind, s: Setting) -> Check
+    ensures { λ r. ⌜ r ≡ conversionOf k .setting s ⌝ }
+{
+    match k {
+        Kind::PixelToScene => setting::check_setting(s),
+        Kind::SceneToPixel => setting::check_setting(s),
+        Kind::PixelToAces => setting::check_setting(s),
+        Kind::AcesToPixel => setting::check_setting(s),
     }
 }
 
@@ -72,5 +88,22 @@ pub fn write_record(k: Kind, s: Setting, d: Decoder, t: &[u64; 128], r: &[u8], o
         Kind::SceneToPixel => scene::write_pixel(s, d, t, r, out),
         Kind::PixelToAces => aces_record::write_triple(s, d, t, r, out),
         Kind::AcesToPixel => aces_record::write_back(s, d, t, r, out),
+    }
+}
+
+// An ACES record on the way back, in one step: its check, refusal 10, and where it passes what is written for it.
+pub fn convert_aces(s: Setting, d: Decoder, t: &[u64; 128], r: &[u8], out: &mut [u8]) -> Check
+    requires { ⌜ Ready s d (now t) ⌝ }
+    requires { ⌜ (s ≡ settingOf (now r)) × (length (now r) ≡ acesToPixel .from) ⌝ }
+    requires { ⌜ length (now out) ≡ acesToPixel .to ⌝ }
+    ensures { λ x. ⌜ x ≡ acesToPixel .inner (now (r .entry)) ⌝ }
+    ensures { λ x. ⌜ now (out .exit) ≡ stretchAfter x (acesToPixel .bytes (now (r .entry))) (now (out .entry)) ⌝ }
+{
+    match way_back::find(s, d, t, records::triple_in(r)) {
+        Found::Nothing => Check::Refused(Refusal::NoPixel),
+        Found::Pixel(p) => {
+            records::put_pixel(out, s, p);
+            Check::Passed
+        }
     }
 }

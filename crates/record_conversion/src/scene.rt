@@ -1,13 +1,16 @@
 // Scene records: the checks of their numbers, and what is written for one.
 ghost use mathlib.Core.Path.{_≡_};
-ghost use Prim.Native.Nat.{_+_, _<_};
+ghost use Prim.Native.Nat.{_+_, _≤_};
 ghost use lib.ListN.{length, take, drop};
 ghost use Rattle.rules.specs.declared.Check.the-variants.{Passed};
-ghost use Rattle.rules.specs.Record.{value};
+ghost use Rattle.rules.specs.Record.{value, codeBytes, numberBytes, pixelSize, numbersSize};
 ghost use Rattle.decode.specs.Ready.{Ready};
 ghost use Rattle.record_conversion.specs.Conversions.{codeBits};
 ghost use Rattle.rules.specs.Conversions.{channelChecks, eachChannel, numberCheck};
 use decode::decoder::Decoder;
+use records::BLUE_NUMBER;
+use records::GREEN_NUMBER;
+use records::SETTING_BYTES;
 use rules::Check;
 use rules::Code;
 use rules::Pixel;
@@ -16,50 +19,50 @@ use rules::Setting;
 
 // The check of the number at a place of the record.
 fn check_at(s: Setting, r: &[u8], at: usize) -> Check
-    requires { ⌜ at + 7 < length (now r) ⌝ }
-    ensures { λ x. ⌜ x ≡ numberCheck s (value (take 8 (drop at (now (r .entry))))) ⌝ }
+    requires { ⌜ at + numberBytes ≤ length (now r) ⌝ }
+    ensures { λ x. ⌜ x ≡ numberCheck s (value (take numberBytes (drop at (now (r .entry))))) ⌝ }
 {
-    encode::check_scene(Scene(little_endian::long_at(r, at)))
+    encode::check_scene(Scene(little_endian::number_at(r, at)))
 }
 
 // The checks of the three numbers of a record.
 pub fn check_numbers(s: Setting, r: &[u8]) -> Check
-    requires { ⌜ length (now r) ≡ 28 ⌝ }
-    ensures { λ x. ⌜ x ≡ channelChecks 8 (numberCheck s) (now (r .entry)) ⌝ }
+    requires { ⌜ length (now r) ≡ numbersSize ⌝ }
+    ensures { λ x. ⌜ x ≡ channelChecks numberBytes (numberCheck s) (now (r .entry)) ⌝ }
 {
-    let red = check_at(s, r, 4);
+    let red = check_at(s, r, SETTING_BYTES);
     let Check::Passed = red else {
         return red;
     };
-    let green = check_at(s, r, 12);
+    let green = check_at(s, r, GREEN_NUMBER);
     let Check::Passed = green else {
         return green;
     };
-    check_at(s, r, 20)
+    check_at(s, r, BLUE_NUMBER)
 }
 
 // The code of the number at a place of the record.
 fn code_at(s: Setting, d: Decoder, t: &[u64; 128], r: &[u8], at: usize) -> Code
     requires { ⌜ Ready s d (now t) ⌝ }
-    requires { ⌜ at + 7 < length (now r) ⌝ }
-    requires { ⌜ numberCheck s (value (take 8 (drop at (now r)))) ≡ Passed ⌝ }
-    ensures { λ n. ⌜ n .0 ≡ codeBits s (value (take 8 (drop at (now (r .entry))))) ⌝ }
+    requires { ⌜ at + numberBytes ≤ length (now r) ⌝ }
+    requires { ⌜ numberCheck s (value (take numberBytes (drop at (now r)))) ≡ Passed ⌝ }
+    ensures { λ n. ⌜ n .0 ≡ codeBits s (value (take numberBytes (drop at (now (r .entry))))) ⌝ }
 {
-    encode::code_of(s, d, t, Scene(little_endian::long_at(r, at)))
+    encode::code_of(s, d, t, Scene(little_endian::number_at(r, at)))
 }
 
 // What is written for a record: its setting and codes.
 pub fn write_pixel(s: Setting, d: Decoder, t: &[u64; 128], r: &[u8], out: &mut [u8])
     requires { ⌜ Ready s d (now t) ⌝ }
-    requires { ⌜ length (now r) ≡ 28 ⌝ }
-    requires { ⌜ channelChecks 8 (numberCheck s) (now r) ≡ Passed ⌝ }
-    requires { ⌜ length (now out) ≡ 10 ⌝ }
-    ensures { λ _. ⌜ now (out .exit) ≡ eachChannel 8 2 s (codeBits s) (now (r .entry)) ⌝ }
+    requires { ⌜ length (now r) ≡ numbersSize ⌝ }
+    requires { ⌜ channelChecks numberBytes (numberCheck s) (now r) ≡ Passed ⌝ }
+    requires { ⌜ length (now out) ≡ pixelSize ⌝ }
+    ensures { λ _. ⌜ now (out .exit) ≡ eachChannel numberBytes codeBytes s (codeBits s) (now (r .entry)) ⌝ }
 {
     let p = Pixel {
-        red: code_at(s, d, t, r, 4),
-        green: code_at(s, d, t, r, 12),
-        blue: code_at(s, d, t, r, 20),
+        red: code_at(s, d, t, r, SETTING_BYTES),
+        green: code_at(s, d, t, r, GREEN_NUMBER),
+        blue: code_at(s, d, t, r, BLUE_NUMBER),
     };
     records::put_pixel(out, s, p);
 }

@@ -1,5 +1,5 @@
 -- 01, "Records and settings": "The strip conversions are pixel to scene (decoding), scene to pixel (encoding), pixel to ACES, and ACES to pixel
--- (the way back).": what each checks of a record after its setting, and what it writes. The numbers of the codes are a parameter.
+-- (the way back).": what each checks of a record's setting, what it checks of the record after it, and what it writes. The numbers of the codes are a parameter.
 -- Assumes nothing.
 use mathlib.Core.List.{List}
 use Prim.Native.Nat.{ℕ}
@@ -10,7 +10,7 @@ use Rattle.rules.specs.declared.Pixel.{Pixel}
 use Rattle.rules.specs.declared.Found.{Found}
 use Rattle.rules.specs.declared.Found as found
 use Rattle.rules.specs.Refusal.{then}
-use Rattle.rules.specs.Setting.{codeCheck}
+use Rattle.rules.specs.Setting.{settingCheck, codeCheck}
 use Rattle.rules.specs.Encoding.{codeBy, sceneCheck}
 use Rattle.rules.specs.Pixels.{pixel, acesBy}
 use Rattle.rules.specs.Record.{toBits, ofBits, sizeOf, codeBytes, numberBytes, settingOf, channelAt, recordOf, pixelIn, pixelRecord, tripleIn, acesRecord}
@@ -31,6 +31,7 @@ channelwise a b check one =
     record {
       from = sizeOf a;
       to = sizeOf b;
+      setting = settingCheck;
       inner = λ r. channelChecks a (check (settingOf r)) r;
       bytes = λ r. eachChannel a b (settingOf r) (one (settingOf r)) r;
     }
@@ -66,6 +67,7 @@ module _ (number : Setting → ℕ → ℤ) where
       record {
         from = sizeOf codeBytes;
         to = sizeOf numberBytes;
+        setting = settingCheck;
         inner = λ r. channelChecks codeBytes (codeCheck (settingOf r)) r;
         bytes = λ r. acesRecord (settingOf r) (acesBy number (settingOf r) (pixelIn r));
       }
@@ -76,6 +78,7 @@ module _ (number : Setting → ℕ → ℤ) where
       record {
         from = sizeOf numberBytes;
         to = sizeOf codeBytes;
+        setting = settingCheck;
         inner = λ r. foundCheck (pixelBy number (settingOf r) (tripleIn r));
         bytes = λ r. pixelRecord (settingOf r) (pixelFound (pixelBy number (settingOf r) (tripleIn r)));
       }

@@ -46,8 +46,11 @@ bytesOf (n ∷ ns) (v ∷ vs) = digits n v ++ bytesOf ns vs
 abbrev pub layout : (channel : ℕ) → List ℕ
 layout channel = 1 ∷ 1 ∷ 2 ∷ channel ∷ channel ∷ channel ∷ []
 
+abbrev pub settingBytes : ℕ
+settingBytes = 4
+
 abbrev pub sizeOf : (channel : ℕ) → ℕ
-sizeOf channel = 4 + 3 * channel
+sizeOf channel = settingBytes + 3 * channel
 
 -- "Pixel record, 10 bytes: setting, then red, green, blue codes, 2 bytes each"; "Scene record and ACES record, 28 bytes each: setting, then
 -- three signed 8-byte numbers"
@@ -56,6 +59,12 @@ codeBytes = 2
 
 abbrev pub numberBytes : ℕ
 numberBytes = 8
+
+abbrev pub pixelSize : ℕ
+pixelSize = sizeOf codeBytes
+
+abbrev pub numbersSize : ℕ
+numbersSize = sizeOf numberBytes
 
 -- a record's setting and its channels
 abbrev pub settingOf : List ℕ → Setting
@@ -67,7 +76,7 @@ pub record Channels : Type 0 where
   pub blue : ℕ
 
 abbrev pub channelAt : (channel : ℕ) → List ℕ → (i : ℕ) → ℕ
-channelAt channel r i = value (take channel (drop (4 + i * channel) r))
+channelAt channel r i = value (take channel (drop (settingBytes + i * channel) r))
 
 abbrev pub channelsOf : (channel : ℕ) → List ℕ → Channels
 channelsOf channel r = record { red = channelAt channel r 0; green = channelAt channel r 1; blue = channelAt channel r 2 }

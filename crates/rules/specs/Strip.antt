@@ -13,23 +13,24 @@ use Rattle.rules.specs.declared.Check.{Check}
 use Rattle.rules.specs.declared.Check as check
 use Rattle.rules.specs.declared.Refusal.{Refusal}
 use Rattle.rules.specs.declared.Refusal.the-variants.{PartialRecord, ShortOutput}
+use Rattle.rules.specs.declared.Setting.{Setting}
 use Rattle.rules.specs.Choice.{choose}
 use Rattle.rules.specs.Refusal.{then}
 use Rattle.rules.specs.Result.{Result, stripResult}
-use Rattle.rules.specs.Setting.{settingCheck}
 use Rattle.rules.specs.Record.{settingOf}
 
--- a conversion: the bytes of a record, and of what is written for one; the checks of a record after its setting's; what is written for a
--- record that passes
+-- a conversion: the bytes of a record, and of what is written for one; the checks of a record's setting, and of the record after them; what
+-- is written for a record that passes
 pub record Conversion : Type 0 where
   pub from : ℕ
   pub to : ℕ
+  pub setting : Setting → Check
   pub inner : List ℕ → Check
   pub bytes : List ℕ → List ℕ
 
 -- "Within a record: setting, then red, green and blue (..), then the record."
 abbrev pub recordCheck : Conversion → List ℕ → Check
-recordCheck c r = then (settingCheck (settingOf r)) (c .inner r)
+recordCheck c r = then (c .setting (settingOf r)) (c .inner r)
 
 -- the first n records of a strip
 unfoldable pub records : (size n : ℕ) → List ℕ → List (List ℕ)

@@ -91,18 +91,18 @@ module _ (c : Conversion) (input output : List ℕ) (n : ℕ) where
 
 -- ---- a second conversion takes back what the first does, record by record
 
--- a conversion of what c writes to records as c reads them
-abbrev pub reverse : Conversion → (List ℕ → Check) → (List ℕ → List ℕ) → Conversion
-reverse c inner bytes = record { from = c .to; to = c .from; inner = inner; bytes = bytes }
+-- a conversion d of what c writes to records as c reads them
+abbrev pub reverse : (c d : Conversion) → Conversion
+reverse c d = record { from = c .to; to = c .from; setting = d .setting; inner = d .inner; bytes = d .bytes }
 
-module _ (c : Conversion) (long : (r : List ℕ) → length (c .bytes r) ≡ c .to) (inner : List ℕ → Check) (bytes : List ℕ → List ℕ)
-    (back : (r : List ℕ) → Good c r → (recordCheck (reverse c inner bytes) (c .bytes r) ≡ check.Check.Passed) × (bytes (c .bytes r) ≡ r)) where
-  scan-back : (rs : List (List ℕ)) (k : ℕ) → AllGood c rs → Done (k + length rs) ≡ scan (recordCheck (reverse c inner bytes)) k (map (c .bytes) rs)
+module _ (c : Conversion) (long : (r : List ℕ) → length (c .bytes r) ≡ c .to) (d : Conversion)
+    (back : (r : List ℕ) → Good c r → (recordCheck (reverse c d) (c .bytes r) ≡ check.Check.Passed) × (d .bytes (c .bytes r) ≡ r)) where
+  scan-back : (rs : List (List ℕ)) (k : ℕ) → AllGood c rs → Done (k + length rs) ≡ scan (recordCheck (reverse c d)) k (map (c .bytes) rs)
   unfolding scan
   scan-back [] k g = rw add-zero
   scan-back (r ∷ rs) k g = rw (back r (g .0) .0, add-suc, ← suc-add) (scan-back rs (suc k) (g .1))
 
-  written-back : (rs : List (List ℕ)) → AllGood c rs → written bytes (map (c .bytes) rs) ≡ written (λ r. r) rs
+  written-back : (rs : List (List ℕ)) → AllGood c rs → written (d .bytes) (map (c .bytes) rs) ≡ written (λ r. r) rs
   unfolding written
   written-back [] g = refl
   written-back (r ∷ rs) g = rw (back r (g .0) .1, written-back rs (g .1))
@@ -124,7 +124,7 @@ module _ (c : Conversion) (long : (r : List ℕ) → length (c .bytes r) ≡ c .
     image-is = take-at (image input n) _ (n * c .to) (length-written (c .bytes) (c .to) long (c .from) n input)
 
     -- the second conversion accepts it whole, where it has room for the first's input
-    pub back-whole : (other : List ℕ) → length input ≤ length other → Whole (reverse c inner bytes) (image input n) other n
+    pub back-whole : (other : List ℕ) → length input ≤ length other → Whole (reverse c d) (image input n) other n
     back-whole other room =
         record {
           long = length-written (c .bytes) (c .to) long (c .from) n input;
@@ -133,30 +133,30 @@ module _ (c : Conversion) (long : (r : List ℕ) → length (c .bytes r) ≡ c .
               let e : n ≡ 0 + length (records (c .from) n input) = omega (arith, length-records (c .from) n input) in
               ap Done e
               ∙ scan-back (records (c .from) n input) 0 good
-              ∙ ap (λ (l : List (List ℕ)). scan (recordCheck (reverse c inner bytes)) 0 l) (sym again);
+              ∙ ap (λ (l : List (List ℕ)). scan (recordCheck (reverse c d)) 0 l) (sym again);
         }
 
     -- and writes the first's input
-    pub back-written : (other : List ℕ) → outputAfter (reverse c inner bytes) (image input n) other (Done n) ≡ input ++ drop (length input) other
+    pub back-written : (other : List ℕ) → outputAfter (reverse c d) (image input n) other (Done n) ≡ input ++ drop (length input) other
     unfolding outputAfter
     back-written other = rw (again, written-back _ good, written-records, ← w .long, take-length)
 
   -- THE TWO CONVERSIONS, one after the other, give the strip back
   pub round-trip : 0 < c .to → (input output other : List ℕ) (n : ℕ) → IsBytes input → Done n ≡ answerOf c input output → length input ≤ length other
-      → (Done n ≡ answerOf (reverse c inner bytes) (take (n * c .to) (outputAfter c input output (Done n))) other)
-      × (outputAfter (reverse c inner bytes) (take (n * c .to) (outputAfter c input output (Done n))) other (Done n) ≡ input ++ drop (length input) other)
+      → (Done n ≡ answerOf (reverse c d) (take (n * c .to) (outputAfter c input output (Done n))) other)
+      × (outputAfter (reverse c d) (take (n * c .to) (outputAfter c input output (Done n))) other (Done n) ≡ input ++ drop (length input) other)
   round-trip p input output other n h e room =
       let w = done-whole c input output n e in
       rw (image-is input output n h w)
-      (whole-done (reverse c inner bytes) (image input n) other n p (back-whole input output n h w other room), back-written input output n h w other)
+      (whole-done (reverse c d) (image input n) other n p (back-whole input output n h w other room), back-written input output n h w other)
 
   -- two strips that are converted whole are one where what is written of them is one
   pub same-strip : (input input′ output output′ : List ℕ) (n : ℕ) → IsBytes input → IsBytes input′ → Whole c input output n → Whole c input′ output′ n
       → image input n ≡ image input′ n → input ≡ input′
   same-strip input input′ output output′ n h h′ w w′ e =
-      let p : outputAfter (reverse c inner bytes) (image input n) [] (Done n) ≡ input ++ drop (length input) [] = back-written input output n h w [] in
-      let q : outputAfter (reverse c inner bytes) (image input′ n) [] (Done n) ≡ input′ ++ drop (length input′) [] = back-written input′ output′ n h′ w′ [] in
-      sym (rw (drop-nil, append-nil) at p) ∙ ap (λ (l : List ℕ). outputAfter (reverse c inner bytes) l [] (Done n)) e ∙ rw (drop-nil, append-nil) at q
+      let p : outputAfter (reverse c d) (image input n) [] (Done n) ≡ input ++ drop (length input) [] = back-written input output n h w [] in
+      let q : outputAfter (reverse c d) (image input′ n) [] (Done n) ≡ input′ ++ drop (length input′) [] = back-written input′ output′ n h′ w′ [] in
+      sym (rw (drop-nil, append-nil) at p) ∙ ap (λ (l : List ℕ). outputAfter (reverse c d) l [] (Done n)) e ∙ rw (drop-nil, append-nil) at q
 
   -- TWO STRIPS ARE ONE exactly where what is written of them is one
   pub same-written : (input input′ output output′ : List ℕ) (n : ℕ) → IsBytes input → IsBytes input′

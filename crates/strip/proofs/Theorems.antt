@@ -11,7 +11,7 @@ use Rattle.rules.specs.declared.Answer.the-variants.{Done}
 use Rattle.rules.specs.declared.Check.the-variants.{Passed}
 use Rattle.rules.specs.declared.Setting.{Setting}
 use Rattle.rules.specs.Setting.{codeCheck, Valid}
-use Rattle.rules.specs.Record.{IsBytes, codeBytes, numberBytes, settingOf}
+use Rattle.rules.specs.Record.{IsBytes, codeBytes, numberBytes, settingOf, numbersSize}
 use Rattle.rules.specs.Strip.{recordCheck, answerOf, outputAfter}
 use Rattle.rules.proofs.Records.{length-record}
 use Rattle.rules.proofs.Settings.{code-passed}
@@ -44,13 +44,13 @@ taken-back r g = (
 
 -- PIXEL TO SCENE TO PIXEL: a strip that is converted whole is returned, byte by byte, where there is room for it
 pub pixel-scene-pixel : (pixels scenes others : List ℕ) (n : ℕ) → IsBytes pixels → Done n ≡ answerOf pixelToScene pixels scenes → length pixels ≤ length others
-    → (Done n ≡ answerOf sceneToPixel (take (n * 28) (outputAfter pixelToScene pixels scenes (Done n))) others)
-    × (outputAfter sceneToPixel (take (n * 28) (outputAfter pixelToScene pixels scenes (Done n))) others (Done n) ≡ pixels ++ drop (length pixels) others)
+    → (Done n ≡ answerOf sceneToPixel (take (n * numbersSize) (outputAfter pixelToScene pixels scenes (Done n))) others)
+    × (outputAfter sceneToPixel (take (n * numbersSize) (outputAfter pixelToScene pixels scenes (Done n))) others (Done n) ≡ pixels ++ drop (length pixels) others)
 pixel-scene-pixel pixels scenes others n h e room =
-    back.round-trip pixelToScene long (sceneToPixel .inner) (sceneToPixel .bytes) taken-back (lit< tt) pixels scenes others n h e room
+    back.round-trip pixelToScene long sceneToPixel taken-back (lit< tt) pixels scenes others n h e room
 
 -- EQUAL PIXEL STRIPS exactly where equal scene strips
 pub scenes-decide : (pixels pixels′ scenes scenes′ : List ℕ) (n : ℕ) → IsBytes pixels → IsBytes pixels′
     → Done n ≡ answerOf pixelToScene pixels scenes → Done n ≡ answerOf pixelToScene pixels′ scenes′
-    → (pixels ≡ pixels′) ↔ (take (n * 28) (outputAfter pixelToScene pixels scenes (Done n)) ≡ take (n * 28) (outputAfter pixelToScene pixels′ scenes′ (Done n)))
-scenes-decide = back.same-written pixelToScene long (sceneToPixel .inner) (sceneToPixel .bytes) taken-back
+    → (pixels ≡ pixels′) ↔ (take (n * numbersSize) (outputAfter pixelToScene pixels scenes (Done n)) ≡ take (n * numbersSize) (outputAfter pixelToScene pixels′ scenes′ (Done n)))
+scenes-decide = back.same-written pixelToScene long sceneToPixel taken-back

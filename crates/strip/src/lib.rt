@@ -6,13 +6,13 @@ ghost use Rattle.record_conversion.specs.Conversions.{pixelToScene, sceneToPixe
 ghost use Rattle.strip.specs.Lent.{LentBytes};
 ghost use Rattle.strip.specs.Writable.{writable};
 use record_conversion::Kind;
+use records::NUMBERS_SIZE;
+use records::PIXEL_SIZE;
 use rules::Answer;
 use rules::Refusal;
 
-// How many records a strip has that is converted back in one pass.
-const FEW: usize = 16;
-
-const SHORT: usize = 4096;
+// The least records that the way back takes in one pass. For fewer the two passes are done before a buffer is made.
+const ONE_PASS_LEAST: usize = 16;
 
 // How many records are written: all of them, or none where one is refused.
 fn to_write(a: Answer) -> usize
@@ -66,17 +66,16 @@ pub fn pixel_to_aces(input: &[u8], output: &mut [u8]) -> Answer
     convert(Kind::PixelToAces, input, output)
 }
 
-// The way back: a strip of ACES records to the one of pixel records that gives it. For fewer records than FEW the two passes are done before a
-// buffer is made.
+// The way back: a strip of ACES records to the one of pixel records that gives it.
 pub fn aces_to_pixel(input: &[u8], output: &mut [u8]) -> Answer
     ensures { λ a. ⌜ Converts acesToPixel (now (input .entry)) (now (output .entry)) a (now (output .exit)) ⌝ }
     ensures { λ _. ⌜ LentBytes (now (input .entry)) (now (output .entry)) (now (output .exit)) ⌝ }
 {
-    let n = input.len() / strip_one_pass::FROM;
-    if FEW <= n
-        && n <= SHORT
-        && input.len() % strip_one_pass::FROM == 0
-        && n * strip_one_pass::TO <= output.len()
+    let n = input.len() / NUMBERS_SIZE;
+    if ONE_PASS_LEAST <= n
+        && n <= strip_one_pass::MOST
+        && input.len() % NUMBERS_SIZE == 0
+        && n * PIXEL_SIZE <= output.len()
     {
         return strip_one_pass::aces_to_pixel(input, n, output);
     }

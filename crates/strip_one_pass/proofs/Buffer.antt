@@ -1,4 +1,4 @@
--- What stands in the buffer: after a record that passes, and after all of them.
+-- What stands in the buffer after the pass.
 -- Assumes nothing.
 use mathlib.Core.List.{List, _++_}
 use mathlib.Core.Path.{_≡_, ap, sym, _∙_, subst}
@@ -9,38 +9,30 @@ use lib.ListN.{length, take, drop}
 use lib.Seq.{take-at, take-all, length-take-le}
 use Rattle.rules.specs.declared.Answer.{Answer}
 use Rattle.rules.specs.declared.Answer.the-variants.{Done, Refused}
-use Rattle.rules.specs.declared.Check.the-variants.{Passed}
-use Rattle.rules.specs.declared.Found.{Found}
-use Rattle.rules.specs.declared.Found as found
 use Rattle.rules.specs.declared.Refusal.{Refusal}
-use Rattle.rules.specs.declared.Setting.{Setting}
 use Rattle.rules.specs.Strip.{records, written}
-use Rattle.rules.specs.WayBack.{foundCheck}
-use Rattle.rules.proofs.Settings.{refused-never}
 use Rattle.record_conversion.specs.declared.Kind.the-variants.{AcesToPixel}
 use Rattle.record_conversion.specs.Conversions.{acesToPixel}
 use Rattle.record_conversion.proofs.EveryKind.{kind-long}
 use Rattle.strip_passes.proofs.Cut.{length-written}
 use Rattle.strip_passes.proofs.FirstPass.{done-is, never}
 use Rattle.strip_passes.proofs.SecondPass.{Filled}
-use Rattle.strip_one_pass.specs.Kept.{kept, Kept}
-use Rattle.rules.specs.Record.{pixelRecord}
-use Rattle.rules.specs.Conversions.{pixelFound}
-
-pub kept-passed : (s : Setting) (f : Found) (out : List ℕ) {after : List ℕ} → after ≡ kept s f out → foundCheck f ≡ Passed → after ≡ pixelRecord s (pixelFound f)
-kept-passed s (found.Found.Pixel p) out h e = h
-kept-passed s found.Found.Nothing out h e = refused-never e
+use Rattle.strip_one_pass.specs.Kept.{Kept}
 
 pub refused-keeps : {input after : List ℕ} (why : Refusal) (k : ℕ) → Kept input (Refused why k) after
 refused-keeps why k = record { pixels = λ m e. never (sym e) }
 
 pub all-kept : (n : ℕ) (input buffer after : List ℕ) (i : ℕ) → Filled acesToPixel n input buffer i after → Kept input (Done i) after
-all-kept n input buffer after i w = record { pixels = λ m e. subst (λ (k : ℕ). take (k * 10) after ≡ written (acesToPixel .bytes) (records 28 k input)) (done-is e) here }
+all-kept n input buffer after i w =
+    record { pixels = λ m e. subst (λ (k : ℕ). take (k * acesToPixel .to) after ≡ written (acesToPixel .bytes) (records (acesToPixel .from) k input)) (done-is e) here }
   where
-    here : take (i * 10) after ≡ written (acesToPixel .bytes) (records 28 i input)
+    pixels : List ℕ
+    pixels = written (acesToPixel .bytes) (records (acesToPixel .from) i input)
+
+    here : take (i * acesToPixel .to) after ≡ pixels
     here =
-        ap (take (i * 10)) (w .is)
-        ∙ take-at (written (acesToPixel .bytes) (records 28 i input)) (drop (i * 10) buffer) (i * 10) (length-written (acesToPixel .bytes) 10 (kind-long AcesToPixel) 28 i input)
+        ap (take (i * acesToPixel .to)) (w .is)
+        ∙ take-at pixels (drop (i * acesToPixel .to) buffer) (i * acesToPixel .to) (length-written (acesToPixel .bytes) (acesToPixel .to) (kind-long AcesToPixel) (acesToPixel .from) i input)
 
 -- the first k bytes of a buffer, copied into a strip
 pub copied : (buffer out : List ℕ) {after want : List ℕ} (k : ℕ) → k ≤ length buffer

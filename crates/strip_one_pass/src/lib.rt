@@ -2,48 +2,25 @@
 ghost use mathlib.Core.Path.{_≡_};
 ghost use Prim.Native.Nat.{_*_, _≤_};
 ghost use lib.ListN.{length};
+ghost use Rattle.rules.specs.Record.{pixelSize, numbersSize};
 ghost use Rattle.rules.specs.Strip.{scanOf, outputAfter};
-ghost use Rattle.rules.specs.WayBack.{foundCheck};
-ghost use Rattle.decode.specs.Ready.{Ready};
-ghost use Rattle.way_back.specs.Back.{pixelFor};
 ghost use Rattle.record_conversion.specs.Conversions.{acesToPixel};
-ghost use Rattle.strip_one_pass.specs.Kept.{kept, Kept};
-ghost use Rattle.rules.specs.Record.{tripleIn};
+ghost use Rattle.strip_one_pass.specs.Kept.{most, Kept};
 use decode::decoder::Decoder;
+use record_conversion::Kind;
+use records::NUMBERS_SIZE;
+use records::PIXEL_SIZE;
 use rules::Answer;
 use rules::Check;
-use rules::Found;
-use rules::Refusal;
-use rules::Setting;
 
-// The bytes of an ACES record and of a pixel record.
-pub const FROM: usize = 28;
+// The most records that a strip may have here, and the bytes of the buffer for the pixel records of so many.
+pub const MOST: usize = 4096;
 
-pub const TO: usize = 10;
-
-// The bytes of the buffer: as many pixel records as a strip may have here.
-const BUFFER: usize = 40960;
-
-// An ACES record: its check, refusal 10, and where it passes the record of the pixel that gives it.
-fn convert_record(s: Setting, d: Decoder, t: &[u64; 128], r: &[u8], out: &mut [u8]) -> Check
-    requires { ⌜ Ready s d (now t) ⌝ }
-    requires { ⌜ length (now r) ≡ 28 ⌝ }
-    requires { ⌜ length (now out) ≡ 10 ⌝ }
-    ensures { λ x. ⌜ x ≡ foundCheck (pixelFor s (tripleIn (now (r .entry)))) ⌝ }
-    ensures { λ _. ⌜ now (out .exit) ≡ kept s (pixelFor s (tripleIn (now (r .entry)))) (now (out .entry)) ⌝ }
-{
-    match way_back::find(s, d, t, records::triple_in(r)) {
-        Found::Nothing => Check::Refused(Refusal::NoPixel),
-        Found::Pixel(p) => {
-            records::put_pixel(out, s, p);
-            Check::Passed
-        }
-    }
-}
+const BUFFER: usize = MOST * PIXEL_SIZE;
 
 // The pass over n records. The decoder and the table are fetched for a run of records of one setting.
 fn fill(input: &[u8], n: usize, buffer: &mut [u8]) -> Answer
-    requires { ⌜ (n * 28 ≤ length (now input)) × (n * 10 ≤ length (now buffer)) ⌝ }
+    requires { ⌜ (n * numbersSize ≤ length (now input)) × (n * pixelSize ≤ length (now buffer)) ⌝ }
     ensures { λ a. ⌜ a ≡ scanOf acesToPixel n (now (input .entry)) ⌝ }
     ensures { λ a. ⌜ Kept (now (input .entry)) a (now (buffer .exit)) ⌝ }
 {
@@ -52,19 +29,18 @@ fn fill(input: &[u8], n: usize, buffer: &mut [u8]) -> Answer
     let mut t = curve_table::table(s);
     let mut i = 0;
     while i < n {
-        let a = i * FROM;
-        let b = i * TO;
-        let found = records::setting_of(&input[a..a + FROM]);
-        if !setting::same_setting(s, found) {
-            let passed = setting::check_setting(found);
+        let r = records::record_at(input, NUMBERS_SIZE, i);
+        let next = records::setting_of(r);
+        if !setting::same_setting(s, next) {
+            let passed = record_conversion::check_setting(Kind::AcesToPixel, next);
             if let Check::Refused(cause) = passed {
                 return Answer::Refused(cause, i);
             }
-            s = found;
-            d = Decoder::new(s);
-            t = curve_table::table(s);
+            s = next;
+            d = strip_passes::fetch(s, &mut t);
         }
-        let checked = convert_record(s, d, &t, &input[a..a + FROM], &mut buffer[b..b + TO]);
+        let b = i * PIXEL_SIZE;
+        let checked = record_conversion::convert_aces(s, d, &t, r, &mut buffer[b..b + PIXEL_SIZE]);
         if let Check::Refused(why) = checked {
             return Answer::Refused(why, i);
         }
@@ -75,14 +51,14 @@ fn fill(input: &[u8], n: usize, buffer: &mut [u8]) -> Answer
 
 // The way back of the n records of a strip, of which the buffer holds the pixels.
 pub fn aces_to_pixel(input: &[u8], n: usize, output: &mut [u8]) -> Answer
-    requires { ⌜ (n ≤ 4096) × (n * 28 ≤ length (now input)) × (n * 10 ≤ length (now output)) ⌝ }
+    requires { ⌜ (n ≤ most) × (n * numbersSize ≤ length (now input)) × (n * pixelSize ≤ length (now output)) ⌝ }
     ensures { λ a. ⌜ a ≡ scanOf acesToPixel n (now (input .entry)) ⌝ }
     ensures { λ a. ⌜ now (output .exit) ≡ outputAfter acesToPixel (now (input .entry)) (now (output .entry)) a ⌝ }
 {
     let mut buffer = [0u8; BUFFER];
     let a = fill(input, n, &mut buffer);
     if let Answer::Done(m) = a {
-        bytes::copy(&buffer[0..m * TO], output);
+        bytes::copy(&buffer[0..m * PIXEL_SIZE], output);
     }
     a
 }

@@ -1,4 +1,4 @@
--- The records of a strip, as a loop over them cuts them out.
+-- The records of a strip, one after the other.
 -- Assumes nothing.
 use mathlib.Core.Path.{_≡_, refl, ap, _∙_}
 use mathlib.Core.List.{List, [], _∷_, _++_, append-assoc, append-nil}
@@ -7,13 +7,8 @@ use native.Mathlib.Nat.{mul-le-mul-right, zero-add, zero-mul, suc-add, suc-mul, 
 use native.Mathlib.Numerals.{add-one}
 use native.Mathlib.Omega.{arith}
 use lib.ListN.{length, take, drop, length-append, length-take, length-drop}
-use lib.Seq.{drop-drop, take-append-le, drop-append-le}
-use Rattle.rules.specs.Strip.{records, written}
-use Rattle.little_endian.proofs.Stretch.{span}
-
--- the k-th record, `&input[k * size..k * size + size]`
-abbrev pub cut : ℕ → ℕ → List ℕ → List ℕ
-cut size k s = take (k * size + size - k * size) (drop (k * size) s)
+use lib.Seq.{drop-drop, take-append-le, drop-append-le, length-take-le}
+use Rattle.rules.specs.Strip.{records, recordAt, written}
 
 -- the records from the k-th up to the n-th
 abbrev pub rest : ℕ → ℕ → ℕ → List ℕ → List (List ℕ)
@@ -28,12 +23,23 @@ room-at k n size from len e h room =
     let le : (k + 1) * from ≤ n * from = mul-le-mul-right from (rw add-one h) in
     rw (e, ← next k from) (omega arith)
 
--- the record that the code cuts out, at the size that it has
-pub cut-at : (k : ℕ) (s : List ℕ) {size from : ℕ} → size ≡ from → cut size k s ≡ cut from k s
-cut-at k s e = ap (λ (m : ℕ). cut m k s) e
+-- the k-th of n records is whole
+pub length-at : (size n k : ℕ) (s : List ℕ) → n * size ≤ length s → k < n → length (recordAt size k s) ≡ size
+length-at size n k s h l = length-take-le size (drop (k * size) s) (rw length-drop (omega (arith, room-at k n size size (length s) refl l h)))
 
-pub length-cut : (k : ℕ) (s : List ℕ) {size from : ℕ} → size ≡ from → k * size + size ≤ length s → length (cut size k s) ≡ from
-length-cut k s e h = simp (length-take, length-drop) (omega arith)
+-- the record that the code reads at a size, of those at the size that a conversion has
+pub record Read (from k : ℕ) (s r : List ℕ) : Type 0 where
+  pub is : r ≡ recordAt from k s
+  pub long : length r ≡ from
+
+pub read-at : {n k size from : ℕ} {s r : List ℕ} → size ≡ from → k < n → n * from ≤ length s → r ≡ recordAt size k s → Read from k s r
+read-at {n} {k} {size} {from} {s} e h room f =
+    let is = f ∙ ap (λ (m : ℕ). recordAt m k s) e in
+    record { is = is; long = ap length is ∙ length-at from n k s room h }
+
+-- the k-th stretch that is lent, `&mut out[k * size..k * size + size]`
+pub length-lent : (k : ℕ) (out : List ℕ) {size to : ℕ} → size ≡ to → k * size + size ≤ length out → length (take (k * size + size - k * size) (drop (k * size) out)) ≡ to
+length-lent k out e h = simp (length-take, length-drop) (omega arith)
 
 drop-next : (size k : ℕ) (s : List ℕ) → drop size (drop (k * size) s) ≡ drop ((k + 1) * size) s
 drop-next size k s = rw (next, drop-drop)
@@ -41,17 +47,17 @@ drop-next size k s = rw (next, drop-drop)
 pub rest-start : (size n : ℕ) (s : List ℕ) → rest size n 0 s ≡ records size n s
 rest-start size n s = rw (zero-mul, sub-zero)
 
-pub rest-next : (size n k : ℕ) (s : List ℕ) → k < n → rest size n k s ≡ cut size k s ∷ rest size n (k + 1) s
+pub rest-next : (size n k : ℕ) (s : List ℕ) → k < n → rest size n k s ≡ recordAt size k s ∷ rest size n (k + 1) s
 unfolding records
 rest-next size n k s h =
     let e : n - k ≡ suc (n - (k + 1)) = omega arith in
-    rw (e, span (k * size) size, drop-next)
+    rw (e, drop-next)
 
 pub rest-end : (size n : ℕ) (s : List ℕ) → rest size n n s ≡ []
 unfolding records
 rest-end size n s = rw sub-self
 
-records-suc : (size k : ℕ) (s : List ℕ) → records size (suc k) s ≡ records size k s ++ (take size (drop (k * size) s) ∷ [])
+records-suc : (size k : ℕ) (s : List ℕ) → records size (suc k) s ≡ records size k s ++ (recordAt size k s ∷ [])
 unfolding records
 records-suc size zero s = rw zero-mul
 records-suc size (suc k) s =
@@ -60,8 +66,8 @@ records-suc size (suc k) s =
     ap {B = List (List ℕ)} (λ r. take size s ∷ r)
     (records-suc size k (drop size s) ∙ ap (λ (t : List ℕ). records size k (drop size s) ++ (take size t ∷ [])) h)
 
-pub records-more : (size k : ℕ) (s : List ℕ) → records size (k + 1) s ≡ records size k s ++ (cut size k s ∷ [])
-records-more size k s = rw (add-one, records-suc, span (k * size) size)
+pub records-more : (size k : ℕ) (s : List ℕ) → records size (k + 1) s ≡ records size k s ++ (recordAt size k s ∷ [])
+records-more size k s = rw (add-one, records-suc)
 
 -- ---- the records of two strips, joined
 empty : (a : List ℕ) → length a ≡ 0 → a ≡ []

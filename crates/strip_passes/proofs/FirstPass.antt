@@ -13,16 +13,16 @@ use Rattle.rules.specs.declared.Answer.the-variants.{Done, Refused}
 use Rattle.rules.specs.declared.Check.{Check}
 use Rattle.rules.specs.declared.Check as check
 use Rattle.rules.specs.declared.Refusal.{Refusal}
+use Rattle.rules.specs.declared.Setting.{Setting}
 use Rattle.rules.specs.Refusal.{then}
-use Rattle.rules.specs.Setting.{settingCheck}
 use Rattle.rules.specs.Record.{settingOf}
-use Rattle.rules.specs.Strip.{Conversion, recordCheck, records, orNext, scan, scanOf}
-use Rattle.little_endian.proofs.Stretch.{span}
-use Rattle.strip_passes.proofs.Cut.{cut, rest, rest-start, rest-next, rest-end}
+use Rattle.rules.proofs.Settings.{both}
+use Rattle.rules.specs.Strip.{Conversion, recordCheck, records, recordAt, orNext, scan, scanOf}
+use Rattle.strip_passes.proofs.Cut.{rest, rest-start, rest-next, rest-end}
 
--- a record's check, where its setting's answers x
-pub setting-decides : (c : Conversion) (r : List ℕ) {x : Check} → settingCheck (settingOf r) ≡ x → recordCheck c r ≡ then x (c .inner r)
-setting-decides c r e = ap (λ (y : Check). then y (c .inner r)) e
+-- the check of a record, of which the code has the bytes r and the setting s, where the setting's checks answer x
+pub setting-decides : (c : Conversion) {here r : List ℕ} {s : Setting} {x : Check} → r ≡ here → s ≡ settingOf r → c .setting s ≡ x → recordCheck c here ≡ then x (c .inner r)
+setting-decides c {r = r} e f g = ap (recordCheck c) (sym e) ∙ ap (λ (y : Check). then y (c .inner r)) (ap (c .setting) (sym f) ∙ g)
 
 -- where the pass stands at the k-th of n records: it is to answer what the records from there on say
 pub record Scanned (c : Conversion) (n : ℕ) (input : List ℕ) (k : ℕ) : Type 0 where
@@ -34,12 +34,12 @@ module _ (c : Conversion) (n : ℕ) (input : List ℕ) where
   scanned-start = record { upto = omega arith; same = rw rest-start }
 
   scan-at : (k : ℕ) → k < n
-      → scan (recordCheck c) k (rest (c .from) n k input) ≡ orNext (recordCheck c (cut (c .from) k input)) k (scan (recordCheck c) (k + 1) (rest (c .from) n (k + 1) input))
+      → scan (recordCheck c) k (rest (c .from) n k input) ≡ orNext (recordCheck c (recordAt (c .from) k input)) k (scan (recordCheck c) (k + 1) (rest (c .from) n (k + 1) input))
   unfolding scan
   scan-at k h = rw (rest-next (c .from) n k input h, add-one)
 
   -- the record passes: on to the next
-  pub scanned-more : (k : ℕ) → k < n → Scanned c n input k → recordCheck c (cut (c .from) k input) ≡ check.Check.Passed → Scanned c n input (k + 1)
+  pub scanned-more : (k : ℕ) → k < n → Scanned c n input k → recordCheck c (recordAt (c .from) k input) ≡ check.Check.Passed → Scanned c n input (k + 1)
   scanned-more k h w e =
       record {
         upto = omega arith;
@@ -47,7 +47,7 @@ module _ (c : Conversion) (n : ℕ) (input : List ℕ) where
       }
 
   -- the record is refused: that is the answer
-  pub scanned-stop : (k : ℕ) (why : Refusal) → k < n → Scanned c n input k → recordCheck c (cut (c .from) k input) ≡ check.Check.Refused why → Refused why k ≡ scanOf c n input
+  pub scanned-stop : (k : ℕ) (why : Refusal) → k < n → Scanned c n input k → recordCheck c (recordAt (c .from) k input) ≡ check.Check.Refused why → Refused why k ≡ scanOf c n input
   scanned-stop k why h w e =
       sym (scan-at k h ∙ ap (λ (x : Check). orNext x k (scan (recordCheck c) (k + 1) (rest (c .from) n (k + 1) input))) e) ∙ w .same
 
@@ -83,7 +83,7 @@ scan-count f size (suc n) s k m e =
 pub counted : (c : Conversion) (n : ℕ) (input : List ℕ) (a : Answer) (m : ℕ) → a ≡ scanOf c n input → a ≡ Done m → m ≡ n
 counted c n input a m e h = omega (arith, scan-count (recordCheck c) (c .from) n input 0 m (sym h ∙ e))
 
-pub scan-passes : (f : List ℕ → Check) (size n : ℕ) (s : List ℕ) (k m : ℕ) → Done m ≡ scan f k (records size n s) → (i : ℕ) → i < n → f (take size (drop (i * size) s)) ≡ check.Check.Passed
+pub scan-passes : (f : List ℕ → Check) (size n : ℕ) (s : List ℕ) (k m : ℕ) → Done m ≡ scan f k (records size n s) → (i : ℕ) → i < n → f (recordAt size i s) ≡ check.Check.Passed
 unfolding scan records
 scan-passes f size zero s k m e i h = absurd (omega arith)
 scan-passes f size (suc n) s k m e zero h = rw zero-mul (go-on f (take size s) k m (scan f (suc k) (records size n (drop size s))) e .0)
@@ -92,5 +92,8 @@ scan-passes f size (suc n) s k m e (suc i) h =
     subst (λ (l : List ℕ). f (take size l) ≡ check.Check.Passed) (drop-drop (i * size) size s ∙ ap (λ (j : ℕ). drop j s) e₁)
     (scan-passes f size n (drop size s) (suc k) m (go-on f (take size s) k m (scan f (suc k) (records size n (drop size s))) e .1) i (omega arith))
 
-pub passed : (c : Conversion) (n : ℕ) (input : List ℕ) (m : ℕ) → Done m ≡ scanOf c n input → (k : ℕ) → k < n → recordCheck c (cut (c .from) k input) ≡ check.Check.Passed
-passed c n input m e k h = rw (span (k * c .from) (c .from)) (scan-passes (recordCheck c) (c .from) n input 0 m e k h)
+-- so the setting of the k-th record passes, and the record after it
+pub passed : (c : Conversion) (n m : ℕ) (input : List ℕ) {r : List ℕ} {s : Setting} {k : ℕ} → Done m ≡ scanOf c n input → k < n → r ≡ recordAt (c .from) k input → s ≡ settingOf r
+    → (c .setting s ≡ check.Check.Passed) × (c .inner r ≡ check.Check.Passed)
+passed c n m input {r} {s} {k} e h er es =
+    both (c .setting s) (c .inner r) (sym (setting-decides c er es refl) ∙ scan-passes (recordCheck c) (c .from) n input 0 m e k h)

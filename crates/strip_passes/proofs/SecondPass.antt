@@ -7,9 +7,9 @@ use native.Mathlib.Nat.{le-antisymm, mul-le-mul-right, zero-mul}
 use native.Mathlib.Omega.{arith}
 use lib.ListN.{length, drop, length-append, length-drop}
 use Rattle.rules.specs.declared.Answer.the-variants.{Done}
-use Rattle.rules.specs.Strip.{Conversion, records, written, outputAfter}
+use Rattle.rules.specs.Strip.{Conversion, records, recordAt, written, outputAfter}
 use Rattle.little_endian.proofs.Stretch.{pasted, behind}
-use Rattle.strip_passes.proofs.Cut.{cut, next, records-more, written-append, written-one, length-written}
+use Rattle.strip_passes.proofs.Cut.{next, records-more, written-append, written-one, length-written}
 
 -- where the pass stands at the k-th of n records: what is written so far, and the rest of the output as it was
 pub record Filled (c : Conversion) (n : ℕ) (input output : List ℕ) (k : ℕ) (after : List ℕ) : Type 0 where
@@ -27,18 +27,18 @@ module _ (c : Conversion) (long : (r : List ℕ) → length (c .bytes r) ≡ c .
       let le : k * c .to ≤ n * c .to = mul-le-mul-right (c .to) h in
       rw (length-append, length-written (c .bytes) (c .to) long, length-drop) (omega arith)
 
-  written-more : (k : ℕ) → written (c .bytes) (records (c .from) (k + 1) input) ≡ written (c .bytes) (records (c .from) k input) ++ c .bytes (cut (c .from) k input)
+  written-more : (k : ℕ) → written (c .bytes) (records (c .from) (k + 1) input) ≡ written (c .bytes) (records (c .from) k input) ++ c .bytes (recordAt (c .from) k input)
   written-more k = rw (records-more, written-append, written-one)
 
-  -- the k-th stretch, `&mut output[k * to..k * to + to]`, comes back with what is to be written for the k-th record
-  pub filled-more : (k : ℕ) (after part : List ℕ) → k < n → Filled c n input output k after → part ≡ c .bytes (cut (c .from) k input)
-      → Filled c n input output (k + 1) (pasted after (k * c .to) (k * c .to + c .to) part)
-  filled-more k after part h w e =
+  -- the k-th stretch, `&mut output[k * size..k * size + size]`, comes back with what is to be written for the k-th record
+  pub filled-more : (k size : ℕ) (after part : List ℕ) {r : List ℕ} → size ≡ c .to → k < n → Filled c n input output k after
+      → r ≡ recordAt (c .from) k input → part ≡ c .bytes r → Filled c n input output (k + 1) (pasted after (k * size) (k * size + size) part)
+  filled-more k size after part q h w er e =
       let W : List ℕ = written (c .bytes) (records (c .from) k input) in
       let lw : length W ≡ k * c .to = length-written (c .bytes) (c .to) long (c .from) k input in
       let r : pasted after (k * c .to) (k * c .to + c .to) part ≡ written (c .bytes) (records (c .from) (k + 1) input) ++ drop ((k + 1) * c .to) output =
-      behind W output after part (k * c .to) (c .to) lw (w .is) ∙ rw (written-more k, next k (c .to), e) in
-      record { upto = omega arith; long = ap length r ∙ filled-long (k + 1) (omega arith); is = r }
+      behind W output after part (k * c .to) (c .to) lw (w .is) ∙ rw (written-more k, next k (c .to), e, er) in
+      rw q (record { upto = omega arith; long = ap length r ∙ filled-long (k + 1) (omega arith); is = r })
 
   -- every record is written
   pub filled-end : (k : ℕ) (after : List ℕ) → n ≤ k → Filled c n input output k after → after ≡ outputAfter c input output (Done n)

@@ -4,7 +4,9 @@ ghost use mathlib.Core.Path.{_≡_};
 ghost use Prim.Native.Nat.{_*_, _≤_};
 ghost use lib.ListN.{length};
 ghost use Rattle.rules.specs.declared.Answer.the-variants.{Done};
+ghost use Rattle.rules.specs.Setting.{Valid};
 ghost use Rattle.rules.specs.Strip.{scanOf, outputAfter};
+ghost use Rattle.decode.specs.Ready.{Ready};
 ghost use Rattle.record_conversion.specs.Conversions.{conversionOf};
 use decode::decoder::Decoder;
 use record_conversion::Kind;
@@ -19,6 +21,15 @@ pub const FIRST: Setting = Setting {
     ei: 0,
 };
 
+// What a run of records of one setting needs: its decoder, and its table in place of the one before.
+pub fn fetch(s: Setting, t: &mut [u64; 128]) -> Decoder
+    requires { ⌜ Valid s ⌝ }
+    ensures { λ d. ⌜ Ready s d (now (t .exit)) ⌝ }
+{
+    *t = curve_table::table(s);
+    Decoder::new(s)
+}
+
 // The first pass: the first of the n records that is refused. A setting is checked where a run begins.
 pub fn scan(k: Kind, input: &[u8], n: usize) -> Answer
     requires { ⌜ n * conversionOf k .from ≤ length (now input) ⌝ }
@@ -30,18 +41,17 @@ pub fn scan(k: Kind, input: &[u8], n: usize) -> Answer
     let mut t = curve_table::table(s);
     let mut i = 0;
     while i < n {
-        let at = i * size;
-        let found = records::setting_of(&input[at..at + size]);
-        if !setting::same_setting(s, found) {
-            let passed = setting::check_setting(found);
+        let r = records::record_at(input, size, i);
+        let next = records::setting_of(r);
+        if !setting::same_setting(s, next) {
+            let passed = record_conversion::check_setting(k, next);
             if let Check::Refused(cause) = passed {
                 return Answer::Refused(cause, i);
             }
-            s = found;
-            d = Decoder::new(s);
-            t = curve_table::table(s);
+            s = next;
+            d = fetch(s, &mut t);
         }
-        let checked = record_conversion::check_inner(k, s, d, &t, &input[at..at + size]);
+        let checked = record_conversion::check_inner(k, s, d, &t, r);
         if let Check::Refused(why) = checked {
             return Answer::Refused(why, i);
         }
@@ -63,15 +73,14 @@ pub fn write(k: Kind, input: &[u8], output: &mut [u8], n: usize)
     let mut t = curve_table::table(s);
     let mut i = 0;
     while i < n {
-        let a = i * from;
-        let b = i * to;
-        let next = records::setting_of(&input[a..a + from]);
+        let r = records::record_at(input, from, i);
+        let next = records::setting_of(r);
         if !setting::same_setting(s, next) {
             s = next;
-            d = Decoder::new(s);
-            t = curve_table::table(s);
+            d = fetch(s, &mut t);
         }
-        record_conversion::write_record(k, s, d, &t, &input[a..a + from], &mut output[b..b + to]);
+        let b = i * to;
+        record_conversion::write_record(k, s, d, &t, r, &mut output[b..b + to]);
         i += 1;
     }
 }

@@ -2,6 +2,7 @@
 // gives it, or `refused` and the refusal's number. Bytes short of a record at the end are left.
 use libc::STDIN_FILENO;
 use libc::STDOUT_FILENO;
+use records::NUMBERS_SIZE;
 use rules::Pixel;
 use way_back::Back;
 
@@ -26,8 +27,8 @@ fn print_answer(a: Back) {
 
 // One record: whether there may be another.
 fn one() -> bool {
-    let mut r = [0u8; 28];
-    if io::read_full(STDIN_FILENO, &mut r) < 28 {
+    let mut r = [0u8; NUMBERS_SIZE];
+    if io::read_full(STDIN_FILENO, &mut r) < NUMBERS_SIZE {
         return false;
     }
     print_answer(way_back::way_back(records::setting_of(&r), records::triple_in(&r)));

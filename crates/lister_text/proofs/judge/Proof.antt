@@ -3,7 +3,7 @@
 use mathlib.Core.Path.{sym, ap, _∙_}
 use denote.Ref.{now}
 use borrow.Author.Needs.{needs}
-use Rattle.rules.specs.Setting.{settingCheck}
+use Rattle.record_conversion.specs.Conversions.{pixelToAces}
 use Rattle.lister_text.proofs.Judged.{setting-refused}
 use Rattle.lister_text.proofs.judge.Statement.{statement}
 use Rattle.lister_text.proofs.judge.Tie as tie
@@ -16,7 +16,7 @@ judge-valid-requires c κs =
 returns : tie.Need-returns
 returns c =
     let k = c .before .before .before in
-    setting-refused (now (k .before .before .before .args .r)) (ap settingCheck (sym (k .before .setting-of .ensures)) ∙ sym (k .check-setting .ensures) ∙ c .before .why .given .1)
+    setting-refused (now (k .before .before .before .args .r)) (ap (pixelToAces .setting) (sym (k .before .setting-of .ensures)) ∙ sym (k .check-setting .ensures) ∙ c .before .why .given .1)
 
 pub judge-spec : {M : Type 1} → statement M
 judge-spec =

@@ -6,17 +6,18 @@ use borrow.Author.Needs.{needs}
 use Rattle.rules.specs.declared.Check.the-variants.{Passed}
 use Rattle.rules.specs.declared.Setting.{Setting}
 use Rattle.rules.specs.Record.{settingOf, pixelIn}
-use Rattle.rules.specs.Setting.{settingCheck}
 use Rattle.record_conversion.specs.Conversions.{pixelToAces}
+use Rattle.record_conversion.specs.declared.Kind.the-variants.{PixelToAces}
 use Rattle.record_conversion.proofs.Channels.{codes-pixel}
+use Rattle.record_conversion.proofs.EveryKind.{kind-valid}
 use Rattle.lister_text.proofs.Judged.{code-refused, all-passed}
 use Rattle.lister_text.proofs.judge_valid.Statement.{statement}
 use Rattle.lister_text.proofs.judge_valid.Tie as tie
 use Rattle.rules.specs.Pixels.{IsPixel}
 use Rattle.aces.specs.OfPixel.{pixelAces}
 
-valid : (s : tie.Start) → settingCheck (settingOf (now (s .args .r))) ≡ Passed
-valid s = ap settingCheck (sym (s .pre .1 .0)) ∙ s .pre .0
+valid : (s : tie.Start) → pixelToAces .setting (settingOf (now (s .args .r))) ≡ Passed
+valid s = ap (pixelToAces .setting) (sym (s .pre .1 .0)) ∙ s .pre .0
 
 passes : (c : tie.After-enum-told) → pixelToAces .inner (now (c .before .before .before .before .before .before .before .args .r)) ≡ Passed
 passes c = sym (c .before .before .check-inner .ensures) ∙ c .enum-told .given .1
@@ -25,7 +26,7 @@ of-pixel-requires : tie.Need-of-pixel-requires
 of-pixel-requires c κs =
     let t = c .before .before .before .before .before .before in
     let s = t .before .before .before in (
-      record { valid = s .pre .0; decoder = t .before .new .ensures; table = t .table .ensures },
+      record { valid = kind-valid PixelToAces _ (s .pre .0); decoder = t .before .new .ensures; table = t .table .ensures },
       subst (IsPixel (s .args .s)) (sym (c .pixel-in .ensures))
           (subst (λ (k : Setting). IsPixel k (pixelIn (now (s .args .r)))) (sym (s .pre .1 .0)) (codes-pixel _ _ (passes (c .before .before)))),
     )

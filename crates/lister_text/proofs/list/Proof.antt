@@ -5,15 +5,16 @@ use native.Mathlib.Omega.{arith}
 use lib.ListN.{length}
 use denote.Ref.{now}
 use borrow.Author.Needs.{needs}
+use Rattle.rules.specs.Lister.{size}
 use Rattle.lister_line.specs.Line.{longest, longestTail}
 use Rattle.lister_text.proofs.Answers.{no-room, no-index, lower-room, all-listed}
 use Rattle.lister_text.proofs.list.Statement.{statement}
 use Rattle.lister_text.proofs.list.Tie as tie
 
-room : (c : tie.Else3) → longest * (length (now (c .before .before .before .before .before .args .input)) / 10) + longestTail ≤ length (now (c .before .before .before .before .before .args .out))
+room : (c : tie.Else3) → longest * (length (now (c .before .before .before .before .before .args .input)) / size) + longestTail ≤ length (now (c .before .before .before .before .before .args .out))
 room c = omega (arith, c .before .if2 .left, c .before .before .if1 .left)
 
-indices : (c : tie.Else3) → c .before .before .before .before .before .args .first + length (now (c .before .before .before .before .before .args .input)) / 10 < 2 ^ 64
+indices : (c : tie.Else3) → c .before .before .before .before .before .args .first + length (now (c .before .before .before .before .before .args .input)) / size < 2 ^ 64
 indices c = omega (arith, c .if3 .left)
 
 returns : tie.Need-returns

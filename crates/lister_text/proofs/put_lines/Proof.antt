@@ -1,10 +1,13 @@
 -- `put_lines` meets its contract: the loop stands behind the lines of the records passed.
 -- Assumes nothing.
-use mathlib.Core.Path.{refl}
+use mathlib.Core.Path.{_≡_, refl, ap, _∙_}
 use Prim.Native.Nat.{_-_}
 use native.Mathlib.Omega.{arith}
 use denote.Ref.{now}
-use Rattle.strip_passes.proofs.Cut.{length-cut}
+use Rattle.rules.specs.Lister.{size}
+use Rattle.rules.specs.Strip.{recordAt}
+use Rattle.strip_passes.proofs.Cut.{Read, read-at, room-at}
+use Rattle.lister_text.specs.Listed.{outcomeOf}
 use Rattle.lister_text.proofs.Standing.{Stands, stands-start, next-room, stands-more, stands-end}
 use Rattle.lister_text.proofs.put_lines.Statement.{statement}
 use Rattle.lister_text.proofs.put_lines.Tie as tie
@@ -18,23 +21,25 @@ abbrev μ-loop : tie.MeasureT-loop
 loop-holds : tie.Need-loop-holds Inv-loop μ-loop
 loop-holds c = let s = c .before .before in stands-start _ _ _ _ (s .pre .1) (s .pre .2)
 
-judge-requires : tie.Need-judge-requires Inv-loop μ-loop
-judge-requires c κs =
-    let k = c .before .before in
-    length-cut (k .loop .i) (now (k .before .before .before .args .input)) refl (omega arith)
+-- the record
+read : (c : tie.After-record-at Inv-loop μ-loop) → Read size (c .before .before .loop .i) (now (c .before .before .before .before .before .args .input)) (now (c .record-at .result))
+read c = read-at refl (c .before .loop-test .taken) (c .before .before .before .before .before .pre .0) (c .record-at .ensures)
+
+-- what becomes of it
+judged : (c : tie.After-judge Inv-loop μ-loop) → c .judge .result ≡ outcomeOf (recordAt size (c .before .before .before .loop .i) (now (c .before .before .before .before .before .before .args .input)))
+judged c = c .judge .ensures ∙ ap outcomeOf (read (c .before) .is)
 
 put-line-requires : tie.Need-put-line-requires Inv-loop μ-loop
 put-line-requires c κs =
     let k = c .before .before .before .before in
-    let s = k .before .before .before in
-    rw (c .before .judge .ensures) (next-room _ _ _ _ (s .pre .1) (s .pre .2) (k .loop .i) (c .before .before .before .loop-test .taken) _ _ (k .loop .inv))
+    let s = c .before .before .before .before .before .before .before in
+    rw (judged (c .before)) (next-room _ _ _ _ (s .pre .1) (s .pre .2) (k .loop .i) (c .before .before .before .loop-test .taken) _ _ (k .loop .inv))
 
 loop-again : tie.Need-loop-again Inv-loop μ-loop
 loop-again c =
-    let j = c .before .before .before .before in
-    let k = j .before .before .before in
-    let s = k .before .before .before in
-    stands-more _ _ _ _ (s .pre .1) (s .pre .2) (k .loop .i) (j .before .before .loop-test .taken) _ _ (k .loop .inv) (rw (j .judge .ensures) at (c .before .before .put-line .ensures))
+    let k = c .before .before .before .before .before .before .before in
+    let s = c .before .before .before .before .before .before .before .before .before .before in
+    stands-more _ _ _ _ (s .pre .1) (s .pre .2) (k .loop .i) (c .before .before .before .before .before .before .loop-test .taken) _ _ (k .loop .inv) (rw (judged (c .before .before .before .before)) at (c .before .before .put-line .ensures))
 
 same-length : tie.Need-same-length Inv-loop μ-loop
 same-length c = c .before .loop .inv .long
@@ -51,15 +56,11 @@ put-lines-spec =
     Inv-loop
     μ-loop
     loop-holds
-    (λ c. omega arith)
-    (λ c. omega arith)
-    (λ c. omega arith)
-    (λ c. omega arith)
-    (λ c. omega arith)
-    judge-requires
-    (λ c. omega arith)
+    (λ c κs. room-at _ _ _ _ _ refl (c .loop-test .taken) (c .before .before .before .before .pre .0))
+    (λ c κs. read c .long)
+    (λ c. omega (arith, c .before .before .before .loop-test .taken, c .before .before .before .before .before .before .before .pre .2))
     put-line-requires
-    (λ c. omega arith)
+    (λ c. omega (arith, c .before .before .before .before .before .before .loop-test .taken, c .before .before .before .before .before .before .before .before .before .before .fits .n))
     (λ c. omega arith)
     loop-again
     same-length

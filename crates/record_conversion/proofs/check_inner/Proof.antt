@@ -11,7 +11,7 @@ use Rattle.record_conversion.specs.declared.Kind.{Kind}
 use Rattle.record_conversion.specs.Conversions.{conversionOf}
 use Rattle.record_conversion.proofs.check_inner.Statement.{statement}
 use Rattle.record_conversion.proofs.check_inner.Tie as tie
-use Rattle.rules.specs.Record.{tripleIn}
+use Rattle.rules.specs.Record.{tripleIn, codeBytes, numberBytes}
 use Rattle.rules.specs.Conversions.{channelChecks, numberCheck}
 
 check-codes-requires : tie.Need-check-codes-requires
@@ -30,21 +30,21 @@ returns : tie.Need-returns
 returns c =
     let r = now (c .before .before .before .before .args .r) in
     c .check-codes .ensures
-    ∙ ap (λ (s : Setting). channelChecks 2 (codeCheck s) r) (c .before .before .before .before .pre .1 .0)
+    ∙ ap (λ (s : Setting). channelChecks codeBytes (codeCheck s) r) (c .before .before .before .before .pre .1 .0)
     ∙ sym (ap (λ (x : Kind). conversionOf x .inner r) (c .before .enum-told .given .1))
 
 returns-2 : tie.Need-returns-2
 returns-2 c =
     let r = now (c .before .before .before .before .args .r) in
     c .check-numbers .ensures
-    ∙ ap (λ (s : Setting). channelChecks 8 (numberCheck s) r) (c .before .before .before .before .pre .1 .0)
+    ∙ ap (λ (s : Setting). channelChecks numberBytes (numberCheck s) r) (c .before .before .before .before .pre .1 .0)
     ∙ sym (ap (λ (x : Kind). conversionOf x .inner r) (c .before .enum-told2 .given .1))
 
 returns-3 : tie.Need-returns-3
 returns-3 c =
     let r = now (c .before .before .before .before .args .r) in
     c .check-codes2 .ensures
-    ∙ ap (λ (s : Setting). channelChecks 2 (codeCheck s) r) (c .before .before .before .before .pre .1 .0)
+    ∙ ap (λ (s : Setting). channelChecks codeBytes (codeCheck s) r) (c .before .before .before .before .pre .1 .0)
     ∙ sym (ap (λ (x : Kind). conversionOf x .inner r) (c .before .enum-told3 .given .1))
 
 returns-4 : tie.Need-returns-4

@@ -11,7 +11,7 @@ use Rattle.record_conversion.specs.declared.Kind.{Kind}
 use Rattle.record_conversion.specs.Conversions.{sceneBits, codeBits, conversionOf}
 use Rattle.record_conversion.proofs.write_record.Statement.{statement}
 use Rattle.record_conversion.proofs.write_record.Tie as tie
-use Rattle.rules.specs.Record.{pixelIn, tripleIn, pixelRecord, acesRecord}
+use Rattle.rules.specs.Record.{pixelIn, tripleIn, pixelRecord, acesRecord, codeBytes, numberBytes}
 use Rattle.rules.specs.Conversions.{channelChecks, eachChannel, numberCheck, pixelFound}
 use Rattle.aces.specs.OfPixel.{pixelAces}
 
@@ -20,21 +20,21 @@ write-scene-requires c κs =
     let p = c .before .before .before .before .before .pre in
     let told = c .before .enum-told .given .1 in
     let r = now (c .before .before .before .before .before .args .r) in
-    (p .0, (p .1 .0 .1 ∙ ap (λ (x : Kind). conversionOf x .from) told, (ap (λ (s : Setting). channelChecks 2 (codeCheck s) r) (p .1 .0 .0) ∙ sym (ap (λ (x : Kind). conversionOf x .inner r) told) ∙ p .1 .0 .2, p .1 .1 ∙ ap (λ (x : Kind). conversionOf x .to) told)))
+    (p .0, (p .1 .0 .1 ∙ ap (λ (x : Kind). conversionOf x .from) told, (ap (λ (s : Setting). channelChecks codeBytes (codeCheck s) r) (p .1 .0 .0) ∙ sym (ap (λ (x : Kind). conversionOf x .inner r) told) ∙ p .1 .0 .2, p .1 .1 ∙ ap (λ (x : Kind). conversionOf x .to) told)))
 
 write-pixel-requires : tie.Need-write-pixel-requires
 write-pixel-requires c κs =
     let p = c .before .before .before .before .before .pre in
     let told = c .before .enum-told2 .given .1 in
     let r = now (c .before .before .before .before .before .args .r) in
-    (p .0, (p .1 .0 .1 ∙ ap (λ (x : Kind). conversionOf x .from) told, (ap (λ (s : Setting). channelChecks 8 (numberCheck s) r) (p .1 .0 .0) ∙ sym (ap (λ (x : Kind). conversionOf x .inner r) told) ∙ p .1 .0 .2, p .1 .1 ∙ ap (λ (x : Kind). conversionOf x .to) told)))
+    (p .0, (p .1 .0 .1 ∙ ap (λ (x : Kind). conversionOf x .from) told, (ap (λ (s : Setting). channelChecks numberBytes (numberCheck s) r) (p .1 .0 .0) ∙ sym (ap (λ (x : Kind). conversionOf x .inner r) told) ∙ p .1 .0 .2, p .1 .1 ∙ ap (λ (x : Kind). conversionOf x .to) told)))
 
 write-triple-requires : tie.Need-write-triple-requires
 write-triple-requires c κs =
     let p = c .before .before .before .before .before .pre in
     let told = c .before .enum-told3 .given .1 in
     let r = now (c .before .before .before .before .before .args .r) in
-    (p .0, (p .1 .0 .1 ∙ ap (λ (x : Kind). conversionOf x .from) told, (ap (λ (s : Setting). channelChecks 2 (codeCheck s) r) (p .1 .0 .0) ∙ sym (ap (λ (x : Kind). conversionOf x .inner r) told) ∙ p .1 .0 .2, p .1 .1 ∙ ap (λ (x : Kind). conversionOf x .to) told)))
+    (p .0, (p .1 .0 .1 ∙ ap (λ (x : Kind). conversionOf x .from) told, (ap (λ (s : Setting). channelChecks codeBytes (codeCheck s) r) (p .1 .0 .0) ∙ sym (ap (λ (x : Kind). conversionOf x .inner r) told) ∙ p .1 .0 .2, p .1 .1 ∙ ap (λ (x : Kind). conversionOf x .to) told)))
 
 write-back-requires : tie.Need-write-back-requires
 write-back-requires c κs =
@@ -47,14 +47,14 @@ returns : tie.Need-returns
 returns c =
     let r = now (c .before .before .before .before .before .before .before .before .args .r) in
     c .before .before .write-scene .ensures
-    ∙ ap (λ (s : Setting). eachChannel 2 8 s (sceneBits s) r) (c .before .before .before .before .before .before .before .before .pre .1 .0 .0)
+    ∙ ap (λ (s : Setting). eachChannel codeBytes numberBytes s (sceneBits s) r) (c .before .before .before .before .before .before .before .before .pre .1 .0 .0)
     ∙ sym (ap (λ (x : Kind). conversionOf x .bytes r) (c .before .before .before .before .enum-told .given .1))
 
 returns-2 : tie.Need-returns-2
 returns-2 c =
     let r = now (c .before .before .before .before .before .before .before .before .args .r) in
     c .before .before .write-pixel .ensures
-    ∙ ap (λ (s : Setting). eachChannel 8 2 s (codeBits s) r) (c .before .before .before .before .before .before .before .before .pre .1 .0 .0)
+    ∙ ap (λ (s : Setting). eachChannel numberBytes codeBytes s (codeBits s) r) (c .before .before .before .before .before .before .before .before .pre .1 .0 .0)
     ∙ sym (ap (λ (x : Kind). conversionOf x .bytes r) (c .before .before .before .before .enum-told2 .given .1))
 
 returns-3 : tie.Need-returns-3

@@ -7,13 +7,13 @@ use borrow.Author.Needs.{needs}
 use denote.Ref.{now}
 use lib.IntN.{ℤ}
 use Rattle.whole.proofs.Words.{read-back}
-use Rattle.rules.specs.Record.{digits, toBits}
+use Rattle.rules.specs.Record.{digits, toBits, numberBytes}
 use Rattle.records.proofs.Parts.{four-parts}
 use Rattle.records.proofs.put_numbers.Statement.{statement}
 use Rattle.records.proofs.put_numbers.Tie as tie
 
 abbrev bytes : ℤ → List ℕ
-bytes z = digits 8 (toBits 8 z)
+bytes z = digits numberBytes (toBits numberBytes z)
 
 returns : tie.Need-returns
 returns c =
@@ -22,10 +22,10 @@ returns c =
     let r = g .before .before .before .before in
     let p = r .before .before .before .before in
     let s = p .before .before .before in
-    four-parts 8 (s .args .s) _ (now (s .args .out)) (s .pre) (p .put-setting .ensures)
-    (r .put-long .ensures ∙ ap bytes (read-back (s .fits .red)))
-    (g .put-long2 .ensures ∙ ap bytes (read-back (s .fits .green)))
-    (b .put-long3 .ensures ∙ ap bytes (read-back (s .fits .blue)))
+    four-parts numberBytes (s .args .s) _ (now (s .args .out)) (s .pre) (p .put-setting .ensures)
+    (r .put-number .ensures ∙ ap bytes (read-back (s .fits .red)))
+    (g .put-number2 .ensures ∙ ap bytes (read-back (s .fits .green)))
+    (b .put-number3 .ensures ∙ ap bytes (read-back (s .fits .blue)))
 
 pub put-numbers-spec : {M : Type 1} → statement M
 put-numbers-spec =

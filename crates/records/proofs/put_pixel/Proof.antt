@@ -2,6 +2,7 @@
 -- Assumes nothing.
 use borrow.Author.Needs.{needs}
 use denote.Ref.{now}
+use Rattle.rules.specs.Record.{codeBytes}
 use Rattle.records.proofs.Parts.{four-parts}
 use Rattle.records.proofs.put_pixel.Statement.{statement}
 use Rattle.records.proofs.put_pixel.Tie as tie
@@ -13,7 +14,7 @@ returns c =
     let r = g .before .before .before .before in
     let p = r .before .before .before .before in
     let s = p .before .before .before in
-    four-parts 2 (s .args .s) _ (now (s .args .out)) (s .pre) (p .put-setting .ensures) (r .put-word .ensures) (g .put-word2 .ensures) (b .put-word3 .ensures)
+    four-parts codeBytes (s .args .s) _ (now (s .args .out)) (s .pre) (p .put-setting .ensures) (r .put-u16 .ensures) (g .put-u162 .ensures) (b .put-u163 .ensures)
 
 pub put-pixel-spec : {M : Type 1} → statement M
 put-pixel-spec =

@@ -5,7 +5,7 @@ use Rattle.records.proofs.setting_of.Statement.{statement}
 use Rattle.records.proofs.setting_of.Tie as tie
 
 returns : tie.Need-returns
-returns c = rw (c .word-at .ensures)
+returns c = rw (c .u16-at .ensures)
 
 pub setting-of-spec : {M : Type 1} → statement M
 setting-of-spec =

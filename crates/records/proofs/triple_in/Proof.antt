@@ -8,9 +8,9 @@ use Rattle.records.proofs.triple_in.Tie as tie
 
 returns : tie.Need-returns
 returns c =
-    let r = read-back (record { sfits = c .before .before .long-at .ok }) ∙ c .before .before .long-at .ensures in
-    let g = read-back (record { sfits = c .before .long-at2 .ok }) ∙ c .before .long-at2 .ensures in
-    let b = read-back (record { sfits = c .long-at3 .ok }) ∙ c .long-at3 .ensures in
+    let r = read-back (record { sfits = c .before .before .number-at .ok }) ∙ c .before .before .number-at .ensures in
+    let g = read-back (record { sfits = c .before .number-at2 .ok }) ∙ c .before .number-at2 .ensures in
+    let b = read-back (record { sfits = c .number-at3 .ok }) ∙ c .number-at3 .ensures in
     λ i. record { red = record { 0 = r i }; green = record { 0 = g i }; blue = record { 0 = b i } }
 
 pub triple-in-spec : {M : Type 1} → statement M

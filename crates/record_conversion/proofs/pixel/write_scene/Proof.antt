@@ -5,13 +5,13 @@ use native.Mathlib.Omega.{arith}
 use borrow.Author.Needs.{needs}
 use denote.Ref.{now}
 use Rattle.rules.specs.Setting.{codeCheck}
-use Rattle.rules.specs.Record.{toBits, recordOf}
+use Rattle.rules.specs.Record.{toBits, recordOf, codeBytes, numberBytes}
 use Rattle.record_conversion.proofs.Channels.{AllPass, all-pass}
 use Rattle.record_conversion.proofs.pixel.write_scene.Statement.{statement}
 use Rattle.record_conversion.proofs.pixel.write_scene.Tie as tie
 
-passes : (s : tie.Start) → AllPass 2 (codeCheck (s .args .s)) (now (s .args .r))
-passes s = all-pass 2 (codeCheck (s .args .s)) (now (s .args .r)) (s .pre .1 .1 .0)
+passes : (s : tie.Start) → AllPass codeBytes (codeCheck (s .args .s)) (now (s .args .r))
+passes s = all-pass codeBytes (codeCheck (s .args .s)) (now (s .args .r)) (s .pre .1 .1 .0)
 
 scene-at-requires : tie.Need-scene-at-requires
 scene-at-requires c κs = let s = c .before .before in (s .pre .0, (omega (arith, s .pre .1 .0), passes s .red))
@@ -26,10 +26,10 @@ returns : tie.Need-returns
 returns c =
     let b = c .before .before .before .before in
     let s = b .before .before .before .before .before in
-    let er = ap (toBits 8) (b .before .before .scene-at .ensures) in
-    let eg = ap (toBits 8) (b .before .scene-at2 .ensures) in
-    let eb = ap (toBits 8) (b .scene-at3 .ensures) in
-    c .before .before .put-scene .ensures ∙ ap (recordOf 8 (s .args .s)) (λ i. record { red = er i; green = eg i; blue = eb i })
+    let er = ap (toBits numberBytes) (b .before .before .scene-at .ensures) in
+    let eg = ap (toBits numberBytes) (b .before .scene-at2 .ensures) in
+    let eb = ap (toBits numberBytes) (b .scene-at3 .ensures) in
+    c .before .before .put-scene .ensures ∙ ap (recordOf numberBytes (s .args .s)) (λ i. record { red = er i; green = eg i; blue = eb i })
 
 pub write-scene-spec : {M : Type 1} → statement M
 write-scene-spec = tie.close (tie.spec scene-at-requires scene-at-requires-2 scene-at-requires-3 (λ c κs. search needs) (λ c. search needs) returns)
