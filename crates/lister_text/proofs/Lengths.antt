@@ -10,7 +10,7 @@ use Rattle.rules.specs.declared.Check as check
 use Rattle.rules.specs.Record.{codeBytes, settingOf, channelAt, pixelIn}
 use Rattle.rules.specs.Setting.{codeCheck}
 use Rattle.rules.specs.Strip.{recordCheck, records}
-use Rattle.rules.proofs.Settings.{code-passed, both}
+use Rattle.rules.proofs.Settings.{both}
 use Rattle.decode.specs.Decoded.{decoded}
 use Rattle.aces_inverse.specs.Given.{Given}
 use Rattle.aces_inverse.proofs.Inverse.{aces-small}
@@ -34,11 +34,11 @@ numbers-small r e =
     let v = kind-valid PixelToAces s (b .0) in
     let p = all-pass codeBytes (codeCheck s) r (b .1) in
     let code : ℕ → ℕ = λ i. channelAt codeBytes r i in
-    aces-small s (decoded s (code 0)) (decoded s (code 1)) (decoded s (code 2))
+    aces-small s v (decoded s (code 0)) (decoded s (code 1)) (decoded s (code 2))
     (record {
-      red = decoded-small s v (code 0) (code-passed s (code 0) (p .red));
-      green = decoded-small s v (code 1) (code-passed s (code 1) (p .green));
-      blue = decoded-small s v (code 2) (code-passed s (code 2) (p .blue));
+      red = decoded-small s v (code 0) (p .red);
+      green = decoded-small s v (code 1) (p .green);
+      blue = decoded-small s v (code 2) (p .blue);
     })
     (record { red-is = refl; green-is = refl; blue-is = refl })
 

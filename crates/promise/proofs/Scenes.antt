@@ -2,10 +2,10 @@
 -- number of the same channel's code, and for an accepted scene strip each code written is the
 -- nearest one, within two thirds of a code where it is not clipped. For every strip of bytes, settings mixed.
 -- Assumes nothing.
-use mathlib.Core.Path.{_≡_, sym, ap, _∙_, subst}
+use mathlib.Core.Path.{_≡_, refl, sym, ap, _∙_, subst}
 use mathlib.Core.List.{List}
 use Prim.Native.Nat.{ℕ, _*_, _^_, _≤_, _<_}
-use native.Mathlib.Nat.{le-of-eq, zero-add, lt-of-le-of-lt}
+use native.Mathlib.Nat.{le-of-eq, zero-add}
 use lib.Dec.{lit<}
 use lib.ListN.{length, drop}
 use Rattle.rules.specs.declared.Answer.{Answer}
@@ -14,15 +14,14 @@ use Rattle.rules.specs.declared.Check.{Check}
 use Rattle.rules.specs.declared.Check.the-variants.{Passed}
 use Rattle.rules.specs.declared.Setting.{Setting}
 use Rattle.rules.specs.Setting.{codeCheck, Valid}
-use Rattle.rules.specs.Exact.{scaleOf}
-use Rattle.rules.specs.Decoding.{Decodes}
+use Rattle.rules.specs.Decoding.{DecodesCode}
 use Rattle.rules.specs.Record.{IsBytes, ofBits, sizeOf, codeBytes, numberBytes, settingOf, channelAt, pixelSize, numbersSize}
 use Rattle.rules.specs.Strip.{recordCheck, recordAt, answerOf, outputAfter}
 use Rattle.rules.specs.Result.{stripResult}
 use Rattle.rules.proofs.Records.{length-record}
-use Rattle.rules.proofs.Settings.{code-passed}
-use Rattle.decode.proofs.Program.{top-small}
+use Rattle.rules.proofs.Codes.{code-small}
 use Rattle.decode.proofs.Theorems.{decoding}
+use Rattle.encode.specs.Encoded.{encodedStep}
 use Rattle.encode.proofs.Theorems.{encoded-nearest, encoded-two-thirds}
 use Rattle.record_conversion.specs.Conversions.{sceneBits, codeBits, pixelToScene, sceneToPixel}
 use Rattle.record_conversion.proofs.Good.{Good}
@@ -83,7 +82,7 @@ module _ (a b : ℕ) (check : Setting → ℕ → Check) (one : Setting → ℕ 
 -- ---- decoding
 scene-decoded : (s : Setting) → Valid s → (code : ℕ) → codeCheck s code ≡ Passed → IsDecoded s code (sceneBits s code)
 scene-decoded s v code e =
-    record { near = subst (Decodes (scaleOf s) code) (sym (scene-read s v code e)) (decoding s v code (code-passed s code e)); same = scene-read s v code e }
+    record { near = subst (DecodesCode s code) (sym (scene-read s v code e)) (decoding s v code e); same = scene-read s v code e }
 
 -- PIXEL TO SCENE converts an accepted strip, and writes for each record its setting and decoded
 -- numbers of its codes, channel by channel
@@ -95,10 +94,10 @@ pixels-decoded pixels output n a room =
 -- ---- encoding
 module _ (s : Setting) (v : Valid s) (bits : ℕ) (e : numberCheck s bits ≡ Passed) where
   code-fits : codeBits s bits < 256 ^ codeBytes
-  code-fits = lt-of-le-of-lt (encoded-nearest s (ofBits numberBytes bits) .in-range) (top-small s v)
+  code-fits = code-small s v (encodedStep s (ofBits numberBytes bits)) (encoded-nearest s (ofBits numberBytes bits) .in-range)
 
   code-encoded : IsEncoded s bits (codeBits s bits)
-  code-encoded = record { nearest = encoded-nearest s (ofBits numberBytes bits); two-thirds = encoded-two-thirds s v (ofBits numberBytes bits) }
+  code-encoded = record { step = encodedStep s (ofBits numberBytes bits); code = refl; nearest = encoded-nearest s (ofBits numberBytes bits); two-thirds = encoded-two-thirds s v (ofBits numberBytes bits) }
 
 scene-passes : (r : List ℕ) → HoldsScene r → recordCheck sceneToPixel r ≡ Passed
 unfolding channelChecks

@@ -26,7 +26,7 @@ use Rattle.rules.specs.Record.{IsBytes, toBits, ofBits, codeBytes, settingOf, C
 use Rattle.rules.specs.Strip.{recordCheck}
 use Rattle.rules.specs.WayBack.{foundCheck}
 use Rattle.rules.proofs.Records.{FitsRecord, value-small, drop-bytes, read-setting, read-channels, write-read, of-to, to-of, bits-fit, length-record}
-use Rattle.rules.proofs.Settings.{both, code-passed, refused-never}
+use Rattle.rules.proofs.Settings.{both, refused-never}
 use Rattle.decode.specs.Decoded.{decoded}
 use Rattle.aces_inverse.specs.Given.{Small3, Given}
 use Rattle.aces_inverse.proofs.Inverse.{aces-small}
@@ -50,11 +50,11 @@ below x h = (omega (arith, abs-is x), omega (arith, abs-is x))
 -- the ACES numbers of a pixel are small
 pixel-given : (s : Setting) → Valid s → (p : Pixel) → IsPixel s p → Given (pixelAces s p .red .0) (pixelAces s p .green .0) (pixelAces s p .blue .0)
 pixel-given s v p i =
-    aces-small s (decoded s (p .red .0)) (decoded s (p .green .0)) (decoded s (p .blue .0))
+    aces-small s v (decoded s (p .red .0)) (decoded s (p .green .0)) (decoded s (p .blue .0))
     (record {
-      red = decoded-small s v (p .red .0) (code-passed s (p .red .0) (i .red));
-      green = decoded-small s v (p .green .0) (code-passed s (p .green .0) (i .green));
-      blue = decoded-small s v (p .blue .0) (code-passed s (p .blue .0) (i .blue));
+      red = decoded-small s v (p .red .0) (i .red);
+      green = decoded-small s v (p .green .0) (i .green);
+      blue = decoded-small s v (p .blue .0) (i .blue);
     })
     (record { red-is = refl; green-is = refl; blue-is = refl })
 

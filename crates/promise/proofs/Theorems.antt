@@ -22,8 +22,9 @@ use Rattle.rules.specs.declared.Setting.{Setting}
 use Rattle.rules.specs.declared.Triple.{Triple}
 use Rattle.rules.specs.Refusal.{then, numberOfCheck}
 use Rattle.rules.specs.Result.{Result, done, refusedBy, single, stripResult}
-use Rattle.rules.specs.Setting.{topOf, settingCheck, Valid}
-use Rattle.rules.specs.Decoding.{Decodes}
+use Rattle.rules.specs.declared.Check.the-variants.{Passed}
+use Rattle.rules.specs.Setting.{settingCheck, codeCheck, Valid}
+use Rattle.rules.specs.Decoding.{DecodesCode}
 use Rattle.rules.specs.WayBack.{codesFound, foundCheck}
 use Rattle.rules.specs.Exact.{scaleOf}
 use Rattle.rules.specs.ExactRow.{acesTolerance, WithinRow}
@@ -31,7 +32,7 @@ use Rattle.rules.specs.Matrix.{matrixOf, acesNumber, IsAces}
 use Rattle.rules.specs.Record.{IsBytes, settingOf, pixelIn, pixelSize, numbersSize}
 use Rattle.rules.specs.Strip.{Conversion, recordCheck, records, recordAt, written, scanOf, answerOf, outputAfter, resultOf, stripAfter}
 use Rattle.rules.proofs.Results.{number-positive, done-answer, refused-answer}
-use Rattle.rules.proofs.Settings.{code-passed, refused-never}
+use Rattle.rules.proofs.Settings.{refused-never}
 use Rattle.rules.proofs.Records.{length-record}
 use Rattle.decode.specs.Decoded.{decoded}
 use Rattle.decode.proofs.Theorems.{decoding}
@@ -45,7 +46,7 @@ use Rattle.strip.proofs.Join.{whole-answer}
 use Rattle.strip.proofs.Back as back
 use Rattle.way_back.specs.Back.{pixelFor, wayBackResult}
 use Rattle.way_back.proofs.Theorems.{found-gives, one-pixel, nothing-gives}
-use Rattle.promise.specs.Words.{Accepted, HoldsPixel, IsGrey, made, numberIn, NearExact, Without, OnlyPixel, SomeWithout, FirstWithout, refusalOf, refusedAt, ReportsFirst, WithoutPixel, IsOnlyPixel, GivesOnly}
+use Rattle.promise.specs.Words.{Accepted, HoldsPixel, IsGrey, made, numberIn, stepIn, NearExact, Without, OnlyPixel, SomeWithout, FirstWithout, refusalOf, refusedAt, ReportsFirst, WithoutPixel, IsOnlyPixel, GivesOnly}
 use Rattle.promise.proofs.Single.{same-triple, back-passes, back-same, passed-only, not-both, refused-without, refusal-number}
 use Rattle.promise.proofs.Strips.{written-at, bytes-at, aces-long, accepted-good, accepted-whole, made-records, made-long, made-at}
 
@@ -53,7 +54,7 @@ taken-back : (r : List ℕ) → Good pixelToAces r → (recordCheck acesToPixel 
 taken-back r g = (back-passes r g, back-same r g)
 
 -- THE NUMBER that every conversion uses for a code is a decoded number in the rules' sense
-pub number-used : (s : Setting) → Valid s → (n : ℕ) → n ≤ topOf (s .width) → Decodes (scaleOf s) n (decoded s n)
+pub number-used : (s : Setting) → Valid s → (n : ℕ) → codeCheck s n ≡ Passed → DecodesCode s n (decoded s n)
 number-used = decoding
 
 -- a call that converts n records
@@ -95,9 +96,9 @@ channel-number r g (suc (suc (suc i))) l = absurd (omega arith)
 
 record-within : (r : List ℕ) → Good pixelToAces r → HoldsPixel r → (i : ℕ) → i < 3 → NearExact i r (pixelToAces .bytes r)
 record-within r g h i l =
-    subst (WithinRow acesTolerance (matrixOf s) i (scaleOf s) (pixelIn r .red .0) (pixelIn r .green .0) (pixelIn r .blue .0)) (sym (channel-number r g i l))
+    subst (WithinRow acesTolerance (matrixOf s) i (scaleOf s) (stepIn r (pixelIn r .red .0)) (stepIn r (pixelIn r .green .0)) (stepIn r (pixelIn r .blue .0))) (sym (channel-number r g i l))
     (aces-within s (h .valid) i l (pixelIn r .red .0) (pixelIn r .green .0) (pixelIn r .blue .0)
-    (code-passed s (pixelIn r .red .0) (h .pixel .red)) (code-passed s (pixelIn r .green .0) (h .pixel .green)) (code-passed s (pixelIn r .blue .0) (h .pixel .blue)))
+    (h .pixel .red) (h .pixel .green) (h .pixel .blue))
   where
     s : Setting
     s = settingOf r
@@ -110,7 +111,7 @@ strip-within pixels n a k h i l =
 record-grey : (r : List ℕ) → Good pixelToAces r → HoldsPixel r → (c : ℕ) → IsGrey r c → (i : ℕ) → i < 3 → numberIn i (pixelToAces .bytes r) ≡ decoded (settingOf r) c
 record-grey r g h c e i l =
     let s = settingOf r in
-    let d = equal-codes s (h .valid) c (subst (λ (m : ℕ). m ≤ topOf (s .width)) (e .red) (code-passed s (pixelIn r .red .0) (h .pixel .red))) in
+    let d = equal-codes s (h .valid) c (subst (λ (m : ℕ). codeCheck s m ≡ Passed) (e .red) (h .pixel .red)) in
     channel-number r g i l ∙ same i (decoded s) ∙ grey i l d
   where
     same : (i : ℕ) (number : ℕ → ℤ)

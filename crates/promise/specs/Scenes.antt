@@ -10,8 +10,7 @@ use Rattle.rules.specs.declared.Setting.{Setting}
 use Rattle.rules.specs.Setting.{Valid}
 use Rattle.rules.specs.Calls.{EncodesBy}
 use Rattle.rules.specs.Result.{done}
-use Rattle.rules.specs.Exact.{scaleOf}
-use Rattle.rules.specs.Decoding.{Decodes}
+use Rattle.rules.specs.Decoding.{DecodesCode}
 use Rattle.rules.specs.Encoding.{sceneCheck}
 use Rattle.rules.specs.Record.{IsBytes, codeBytes, numberBytes, ofBits, settingOf, channelAt, numbersSize}
 use Rattle.rules.specs.Strip.{Conversion, recordAt, resultOf, stripAfter}
@@ -38,7 +37,7 @@ pub record EachChannel (a b : ℕ) (R : Setting → (from to : ℕ) → Type 0) 
 -- setting and code have one decoded number, the same in every operation and channel.": it is the
 -- number that encoding compares with
 pub record IsDecoded (s : Setting) (code bits : ℕ) : Type 0 where
-  pub near : Decodes (scaleOf s) code (ofBits numberBytes bits)
+  pub near : DecodesCode s code (ofBits numberBytes bits)
   pub same : ofBits numberBytes bits ≡ decoded s code
 
 abbrev pub DecodedRecord : (pixel scene : List ℕ) → Type 0

@@ -12,7 +12,7 @@ use Rattle.rules.specs.declared.Setting.{Setting}
 use Rattle.rules.specs.declared.Triple.{Triple}
 use Rattle.rules.specs.Refusal.{then, numberOfCheck}
 use Rattle.rules.specs.Result.{Result, done, refusedBy}
-use Rattle.rules.specs.Setting.{settingCheck, Valid}
+use Rattle.rules.specs.Setting.{stepOf, settingCheck, Valid}
 use Rattle.rules.specs.Exact.{scaleOf}
 use Rattle.rules.specs.ExactRow.{acesTolerance, WithinRow}
 use Rattle.rules.specs.Matrix.{matrixOf}
@@ -57,10 +57,14 @@ pub record IsGrey (r : List ℕ) (c : ℕ) : Type 0 where
   pub green : pixelIn r .green .0 ≡ c
   pub blue : pixelIn r .blue .0 ≡ c
 
+-- the step of the code n of a record
+abbrev pub stepIn : List ℕ → (n : ℕ) → ℕ
+stepIn r n = stepOf (settingOf r) n
+
 -- "each ACES number made from it is less than .. from what the exact curve and matrix give": the i-th
 -- number of the ACES record a, for the pixel record r
 abbrev pub NearExact : (i : ℕ) → (r a : List ℕ) → Type 0
-NearExact i r a = WithinRow acesTolerance (matrixOf (settingOf r)) i (scaleOf (settingOf r)) (pixelIn r .red .0) (pixelIn r .green .0) (pixelIn r .blue .0) (numberIn i a)
+NearExact i r a = WithinRow acesTolerance (matrixOf (settingOf r)) i (scaleOf (settingOf r)) (stepIn r (pixelIn r .red .0)) (stepIn r (pixelIn r .green .0)) (stepIn r (pixelIn r .blue .0)) (numberIn i a)
 
 -- an ACES record that "has no valid setting or no pixel of its setting gives it"
 pub data Without (r : List ℕ) : Type 0 where

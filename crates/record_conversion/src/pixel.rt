@@ -34,7 +34,7 @@ fn scene_at(s: Setting, d: Decoder, t: &[u64; 128], r: &[u8], at: usize) -> Scen
     requires { ⌜ codeCheck s (value (take codeBytes (drop at (now r)))) ≡ Passed ⌝ }
     ensures { λ y. ⌜ y .0 ≡ decoded s (value (take codeBytes (drop at (now (r .entry))))) ⌝ }
 {
-    d.scene(t, Code(little_endian::u16_at(r, at)))
+    decode::decoder::scene(s, d, t, Code(little_endian::u16_at(r, at)))
 }
 
 // What is written for a record: its setting and scene numbers.

@@ -14,7 +14,6 @@ use Rattle.rules.specs.Setting.{codeCheck, Valid}
 use Rattle.rules.specs.Record.{IsBytes, codeBytes, numberBytes, settingOf, numbersSize}
 use Rattle.rules.specs.Strip.{recordCheck, answerOf, outputAfter}
 use Rattle.rules.proofs.Records.{length-record}
-use Rattle.rules.proofs.Settings.{code-passed}
 use Rattle.decode.proofs.Limit.{decoded-passes}
 use Rattle.encode.proofs.Theorems.{encode-decoded}
 use Rattle.record_conversion.specs.Conversions.{sceneBits, codeBits, pixelToScene, sceneToPixel}
@@ -29,8 +28,8 @@ code-back : (s : Setting) → Valid s → (n : ℕ) → codeCheck s n ≡ Passed
 code-back s v n e =
     record {
       fits = scene-fits s v n e;
-      passes = rw (scene-read s v n e) (decoded-passes s v n (code-passed s n e));
-      returns = rw (scene-read s v n e) (encode-decoded s v n (code-passed s n e));
+      passes = rw (scene-read s v n e) (decoded-passes s v n e);
+      returns = rw (scene-read s v n e) (encode-decoded s v n e);
     }
 
 long : (r : List ℕ) → length (pixelToScene .bytes r) ≡ pixelToScene .to

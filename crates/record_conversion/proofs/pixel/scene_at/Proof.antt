@@ -2,17 +2,14 @@
 -- Assumes nothing.
 use mathlib.Core.Path.{_∙_}
 use borrow.Author.Needs.{needs}
-use Rattle.decode.proofs.Fit.{ready-fits, ready-number}
 use Rattle.record_conversion.proofs.pixel.scene_at.Statement.{statement}
 use Rattle.record_conversion.proofs.pixel.scene_at.Tie as tie
 
 scene-requires : tie.Need-scene-requires
-scene-requires c κs = let s = c .before .before in rw (c .u16-at .ensures) (ready-fits (s .pre .0) _ (s .pre .1 .1))
+scene-requires c κs = let s = c .before .before in rw (c .u16-at .ensures) (s .pre .0, s .pre .1 .1)
 
 returns : tie.Need-returns
-returns c =
-    let s = c .before .before .before in
-    rw (c .before .u16-at .ensures) at (c .scene .ensures) ∙ ready-number (s .pre .0) _
+returns c = rw (c .before .u16-at .ensures) at (c .scene .ensures)
 
 pub scene-at-spec : {M : Type 1} → statement M
 scene-at-spec = tie.close (tie.spec (λ c κs. search needs) scene-requires returns)
