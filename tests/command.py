@@ -306,7 +306,7 @@ def at_once(folder):
     until(lambda: begun(folder))
     assert call("to-aces", "-", out, data=GOOD) == (DONE, "", "") and len(out.read_bytes()) == NUMBERS.size and len(litter(folder)) == 1
     run.stdin.close()
-    assert run.wait() == DONE and len(out.read_bytes()) == NUMBERS.size000 and not litter(folder)
+    assert run.wait() == DONE and len(out.read_bytes()) == 1000 * NUMBERS.size and not litter(folder)
 
 
 def changed(folder):
@@ -343,7 +343,7 @@ def injected(folder):
     assert call("to-aces", source, out, env=under(FAULT=f"fallocate:1:{errno.EOPNOTSUPP}")) == (DONE, "", "")  # a file system that gives no room
     for fault in "read:3", "pwrite:3", "fallocate:1":  # interrupted: it goes on
         assert call("to-aces", source, out, "--chunk=1000", env=under(FAULT=f"{fault}:{errno.EINTR}")) == (DONE, "", "")
-        assert len(out.read_bytes()) == NUMBERS.size0000
+        assert len(out.read_bytes()) == 10000 * NUMBERS.size
     assert call("to-aces", source, out, env=under(FAULT=f"fsync:2:{errno.EINVAL}")) == (DONE, "", "")  # a file system that flushes no folder
     holds(call("to-aces", source, out, env=under(FAULT=f"fsync:2:{errno.EIO}")), FILES, "its folder could not be flushed")
     assert not litter(folder)

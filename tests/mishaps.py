@@ -199,7 +199,7 @@ def other_runs(folder):
         except BlockingIOError:
             pass
     run.communicate()
-    assert run.returncode == DONE and len(out.read_bytes()) == NUMBERS.size000
+    assert run.returncode == DONE and len(out.read_bytes()) == 1000 * NUMBERS.size
     racing = [begin("to-aces", source, out) for _ in range(60)]
     assert all(run.wait() in (DONE, FILES) and b"32 other runs" in run.stderr.read() + b"32 other runs" * (run.returncode == DONE) for run in racing)
     assert len(out.read_bytes()) == NUMBERS.size and litter(folder) == [".other.ropeinstant-0"], litter(folder)

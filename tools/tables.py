@@ -1,6 +1,6 @@
 #!/usr/bin/env python3
 """tables.py [--check]: write the seeds of the curves' tables (crates/curve_table/specs/Seeds.antt), the tables themselves
-(crates/curve_table/src/values.rt) and the lines of the search's guess (crates/nearest_code/src/lines.rt), or with --check say whether the committed
+(crates/curve_table/src/values.rt) and the lines of the search's guess (crates/nearest_code/src/log_line.rt), or with --check say whether the committed
 files are what this prints.
 
 The numbers are the associated constants of the curves' types (crates/curves/src), which are proved to be those of the rules. A seed is a power with
@@ -142,7 +142,7 @@ def written():
         "logC3Seeds =\n    " + "\n    ∷ ".join(seeds[1:]) + "\n    ∷ []\n"
     )
     rt = "// The tables of the curves, one for each setting. Written by tools/tables.py.\n" + "".join(consts)
-    return {"crates/curve_table/specs/Seeds.antt": antt, "crates/curve_table/src/values.rt": rt, "crates/nearest_code/src/lines.rt": lines()}
+    return {"crates/curve_table/specs/Seeds.antt": antt, "crates/curve_table/src/values.rt": rt, "crates/nearest_code/src/log_line.rt": lines()}
 
 
 def line(curve):
@@ -158,8 +158,8 @@ def lines():
     for i, c in enumerate(curves()):
         name = "LOG_C4" if c.ei is None else c.name
         slope, start = line(c)
-        consts += f"    pub const {name}: Line = Line {{\n        slope: {slope},\n        start: {start},\n    }};\n\n"
-        arms += f"            {i - 1} => Line::{name},\n" if i else ""
+        consts += f"    pub const {name}: LogLine = LogLine {{\n        slope: {slope},\n        start: {start},\n    }};\n\n"
+        arms += f"            {i - 1} => LogLine::{name},\n" if i else ""
     return (
         "// The lines of the guess, one for each curve. Written by tools/tables.py.\n"
         "ghost use Prim.Native.Nat.{_^_, _<_};\n"
@@ -169,31 +169,31 @@ def lines():
         "\n"
         "// Above the toe a step's number, less the decoder's bias, is a number z over 2^29, and the signal is slope * log2(z) - start. The slope is\n"
         "// in units of 2^-32, the start in units of 2^-48.\n"
-        "pub struct Line {\n    pub slope: u64,\n    pub start: u64,\n}\n"
+        "pub struct LogLine {\n    pub slope: u64,\n    pub start: u64,\n}\n"
         "\n"
-        "impl Line {\n"
+        "impl LogLine {\n"
         f"{consts}"
         "    // of no curve\n"
-        "    pub const NONE: Line = Line { slope: 0, start: 0 };\n\n"
+        "    pub const NONE: LogLine = LogLine { slope: 0, start: 0 };\n\n"
         "    // The line of a row of curve 3's constants.\n"
-        "    fn log_c3(row: usize) -> Line\n"
+        "    fn log_c3(row: usize) -> LogLine\n"
         "        ensures { λ k. ⌜ k .slope < 2 ^ 29 ⌝ }\n"
         "    {\n"
         "        match row {\n"
         f"{arms}"
-        "            _ => Line::NONE,\n"
+        "            _ => LogLine::NONE,\n"
         "        }\n"
         "    }\n\n"
         "    // The line of a setting. (It goes by the curve's number: to name the curve first took 4 % of the\n"
         "    // way back's time.)\n"
-        "    pub fn of(s: Setting) -> Line\n"
+        "    pub fn of(s: Setting) -> LogLine\n"
         "        ensures { λ k. ⌜ k .slope < 2 ^ 29 ⌝ }\n"
         "    {\n"
         "        let curve = s.curve;\n"
         "        match curve {\n"
-        "            LogC3::NUMBER => Line::log_c3(LogC3::row(s.ei)),\n"
-        "            LogC4::NUMBER => Line::LOG_C4,\n"
-        "            _ => Line::NONE,\n"
+        "            LogC3::NUMBER => LogLine::log_c3(LogC3::row(s.ei)),\n"
+        "            LogC4::NUMBER => LogLine::LOG_C4,\n"
+        "            _ => LogLine::NONE,\n"
         "        }\n"
         "    }\n"
         "}\n"

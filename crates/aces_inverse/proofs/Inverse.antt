@@ -25,7 +25,7 @@ use Rattle.rules.proofs.Search.{NearTriple}
 use Rattle.whole.proofs.Tests.{every, nth, passes, each-of-three}
 use Rattle.row_product.specs.Row.{over}
 use Rattle.row_product.proofs.Nearest.{nearest-of}
-use Rattle.aces_inverse.specs.Given.{Small3, Given}
+use Rattle.aces_inverse.specs.Reach.{Small3, InReach}
 use Rattle.aces_inverse.specs.Farthest.{farthest}
 use Rattle.aces_inverse.specs.Inverse.{inverseFor, inverseRows, candidate}
 use Rattle.aces_inverse.proofs.Dot.{Three, three, dot, weight, Near3, dot-near, rowAt, times, before, times-before, scaled, dot-scaled}
@@ -213,7 +213,7 @@ module _ (s : Setting) (v : Valid s) where
   takes-back k h = for-curve (λ n. T (backTest n k)) (each-of-three (λ i. T (backTest LogC3 i)) tt tt tt k h) (each-of-three (λ i. T (backTest LogC4 i)) tt tt tt k h) s v
 
   -- of given ACES numbers a candidate may be encoded
-  pub candidate-small : (x y z : ℤ) → Given x y z → (k : ℕ) → k < 3 → natAbs (candidate s k x y z) ≤ 2 ^ 40
+  pub candidate-small : (x y z : ℤ) → InReach x y z → (k : ℕ) → k < 3 → natAbs (candidate s k x y z) ≤ 2 ^ 40
   candidate-small x y z h k l =
       row-size (inverseRows s) (2 ^ 39) (lit< tt) k heavyBack (2 ^ 38) (2 ^ 40) (three x y z)
       (light (inverseRows s) (matrixOf s .rows) (halfScale c) (2 ^ 39) (slackOf c) heavyBack farthest k (takes-back k l))
@@ -236,7 +236,7 @@ module _ (s : Setting) (v : Valid s) where
   module _ (x y z : ℤ) (h : Small3 largest x y z) (e : ℕ) (l : e ≤ farthest) (a : Triple)
       (i : NearTriple a (triple (acesNumber (matrixOf s) 0 x y z) (acesNumber (matrixOf s) 1 x y z) (acesNumber (matrixOf s) 2 x y z)) e) where
     -- are numbers that the way back tries
-    pub near-aces-small : Given (a .red .0) (a .green .0) (a .blue .0)
+    pub near-aces-small : InReach (a .red .0) (a .green .0) (a .blue .0)
     near-aces-small =
         record {
           red = small (i .red) (made-small x y z h 0 (lit< tt));
@@ -262,7 +262,7 @@ module _ (s : Setting) (v : Valid s) where
         (omega (arith, h .red, h .green, h .blue)) e l (three (a .red .0) (a .green .0) (a .blue .0)) near-made
 
   -- at distance 0
-  pub aces-small : (x y z : ℤ) → Small3 largest x y z → {p q r : ℤ} → IsAces (matrixOf s) x y z p q r → Given p q r
+  pub aces-small : (x y z : ℤ) → Small3 largest x y z → {p q r : ℤ} → IsAces (matrixOf s) x y z p q r → InReach p q r
   aces-small x y z h {p} {q} {r} i =
       near-aces-small x y z h 0 (lit≤ tt) (triple p q r)
       (record { red = same-near (i .red-is); green = same-near (i .green-is); blue = same-near (i .blue-is) })

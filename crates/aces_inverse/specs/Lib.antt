@@ -1,3 +1,3 @@
-pub mod Given
+pub mod Reach
 pub mod Inverse
 pub mod Farthest

@@ -4,7 +4,7 @@ ghost use Prim.Native.Nat.{_^_};
 ghost use Rattle.rules.specs.Fraction.{integer, whole, _/ℚ_, nearest};
 ghost use Rattle.rules.specs.Setting.{Valid};
 ghost use Rattle.row_product.specs.Row.{Sum};
-ghost use Rattle.aces_inverse.specs.Given.{Given};
+ghost use Rattle.aces_inverse.specs.Reach.{InReach};
 ghost use Rattle.aces_inverse.specs.Inverse.{lowRows, highRows, pair, IsCandidate};
 
 mod entries;
@@ -57,7 +57,7 @@ fn over_binary(l: i64, h: i64) -> i64
 // The scene numbers that a way back tries for three ACES numbers.
 pub fn candidate(s: Setting, a: Triple) -> Scenes
     requires { ⌜ Valid s ⌝ }
-    requires { ⌜ Given (a .red .0) (a .green .0) (a .blue .0) ⌝ }
+    requires { ⌜ InReach (a .red .0) (a .green .0) (a .blue .0) ⌝ }
     ensures { λ r. ⌜ IsCandidate s (a .red .0) (a .green .0) (a .blue .0) (r .red .0) (r .green .0) (r .blue .0) ⌝ }
 {
     let red = a.red.0;

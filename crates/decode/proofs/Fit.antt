@@ -6,8 +6,6 @@ use Prim.Native.Nat.{ℕ, _+_, _-_, _*_, _/_, _%_, _^_, _≤_, _<_}
 use native.Mathlib.Nat.{le-of-lt, lt-of-le-of-lt, mul-le-mul-left, mul-lt-mul-of-pos-right, mul-comm, div-lt-iff-lt-mul}
 use native.Mathlib.Omega.{arith}
 use lib.Dec.{lit<}
-use mir.Syntax.{w64}
-use mir.Val.{SFits}
 use lib.ListN.{getD, drop}
 use lib.Seq.{getD-drop}
 use Rattle.rules.specs.Curve.{Curve, logC4, logC}
@@ -20,9 +18,8 @@ use Rattle.decode.specs.declared.decoder.Decoder.{Decoder}
 use Rattle.decode.specs.Ready.{Ready}
 use Rattle.rules.specs.Exact.{scaleOf}
 use Rattle.curve_table.specs.Table.{tableOf}
-use Rattle.decode.specs.Decoded.{product, Fits, decoderOf, firstOf, toeOf, overOf, decodedBy, decoded, raw}
+use Rattle.decode.specs.Decoded.{product, Fits, decoderOf, firstOf, toeOf, overOf, decodedBy, decoded}
 use Rattle.decode.proofs.Tests.{Source, Tested, HasToe, below-at, bias}
-use Rattle.decode.proofs.Program.{raw-small, number-fits}
 use Rattle.decode.specs.Gap.{gapOf}
 use Rattle.decode.proofs.Settings.{passed}
 
@@ -76,7 +73,3 @@ ready-fits {s} r n e = rw (r .decoder, r .table) (fits s (r .valid) (stepOf s n)
 
 pub ready-number : {s : Setting} {d : Decoder} {t : List ℕ} → Ready s d t → (n : ℕ) → decodedBy d t (stepOf s n) ≡ decoded s n
 ready-number r n = rw (r .decoder, r .table)
-
--- a decoded number fits a signed word
-pub decoded-fits : (s : Setting) → Valid s → (n : ℕ) → codeCheck s n ≡ Passed → SFits w64 (decoded s n)
-decoded-fits s v n e = number-fits (raw s (stepOf s n)) (raw-small (fits s v (stepOf s n) (code-passed s n e)))

@@ -147,6 +147,3 @@ minus-fits u h = rw (toZ-pos w64 (lt-trans h (lit< tt))) (fitsZ (sub (at (pos u)
 pub minus-is : (u v : ℕ) → u ≡ v → u < 2 ^ 62 → readBack (toZ w64 u -ℤ pos 1048576) ≡ subℕ v offset
 minus-is u v e h =
     read-back (minus-fits u h) ∙ ap (λ (z : ℤ). z -ℤ pos 1048576) (toZ-pos w64 (lt-trans h (lit< tt))) ∙ ap (λ (n : ℕ). subℕ n offset) e
-
-pub number-fits : (u : ℕ) → u < 2 ^ 62 → SFits w64 (subℕ u offset)
-number-fits u h = fitsZ (sub (at (pos u)) (at (pos 1048576))) (omega arith) (omega arith)

@@ -13,7 +13,7 @@ use Rattle.whole.proofs.Reflect.{abs-is, at, sub, dif, one-zero, sub-dif}
 use Rattle.whole.proofs.Near.{Near}
 use Rattle.rules.specs.Encoding.{distance, IsNearest}
 use Rattle.decode.specs.Decoded.{offset}
-use Rattle.nearest_code.specs.Search.{Found}
+use Rattle.nearest_code.specs.Search.{NearestStep}
 
 -- ---- two numbers p and q with the offset, and the midpoint between them
 
@@ -118,6 +118,6 @@ near-within g b p u last apart x n h i =
     }
 
 -- what a search finds, where y is x with the offset
-pub found-within : (u : ℕ → ℕ) (last : ℕ) (x : ℤ) (y n : ℕ) → up x + offset ≡ y + dn x → Found u last y n → Within u last x n
-found-within u last x y n e f =
+pub step-within : (u : ℕ → ℕ) (last : ℕ) (x : ℤ) (y n : ℕ) → up x + offset ≡ y + dn x → NearestStep u last y n → Within u last x n
+step-within u last x y n e f =
     record { in-range = f .in-range; above = λ m g. omega (arith, f .above m g); below = λ h. omega (arith, f .below h) }

@@ -12,7 +12,7 @@ use Rattle.rules.specs.Setting.{codeCheck}
 use Rattle.rules.specs.Strip.{recordCheck, records}
 use Rattle.rules.proofs.Settings.{both}
 use Rattle.decode.specs.Decoded.{decoded}
-use Rattle.aces_inverse.specs.Given.{Given}
+use Rattle.aces_inverse.specs.Reach.{InReach}
 use Rattle.aces_inverse.proofs.Inverse.{aces-small}
 use Rattle.decode.proofs.Distance.{decoded-small}
 use Rattle.record_conversion.specs.Conversions.{pixelToAces}
@@ -27,7 +27,7 @@ use Rattle.aces.specs.OfPixel.{pixelAces}
 
 -- the ACES numbers of a pixel are at most 2 ^ 38
 numbers-small : (r : List ℕ) → recordCheck pixelToAces r ≡ check.Check.Passed
-    → Given (pixelAces (settingOf r) (pixelIn r) .red .0) (pixelAces (settingOf r) (pixelIn r) .green .0) (pixelAces (settingOf r) (pixelIn r) .blue .0)
+    → InReach (pixelAces (settingOf r) (pixelIn r) .red .0) (pixelAces (settingOf r) (pixelIn r) .green .0) (pixelAces (settingOf r) (pixelIn r) .blue .0)
 numbers-small r e =
     let s = settingOf r in
     let b = both (pixelToAces .setting s) (pixelToAces .inner r) e in

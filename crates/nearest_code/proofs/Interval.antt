@@ -3,7 +3,7 @@
 use mathlib.Core.Path.{_≡_, subst}
 use Prim.Native.Nat.{ℕ, _+_, _-_, _*_, _/_, _%_, _^_, _≤_, _<_, min}
 use native.Mathlib.Omega.{arith}
-use Rattle.nearest_code.specs.Search.{Found}
+use Rattle.nearest_code.specs.Search.{NearestStep}
 
 -- y is above the number of the step low, unless that is 0, and at most the number of the step high, unless that is past the last; below and above
 -- are these numbers
@@ -49,11 +49,11 @@ module _ {u : ℕ → ℕ} {last y low high below above : ℕ} (b : Between u la
     above-low : low ≤ last → (m : ℕ) → m + 1 ≡ low → u m + u low < 2 * y
     above-low h m e = omega (arith, rises m low (omega arith) h, b .from (omega arith))
 
-    pub end-last : last < high → Found u last y low
+    pub end-last : last < high → NearestStep u last y low
     end-last h =
         record { in-range = omega (arith, b .apart, b .in-range); above = above-low (omega (arith, b .apart, b .in-range)); below = λ p. absurd (omega arith) }
 
-    pub end-low : high ≤ last → 2 * y ≤ u low + u high → Found u last y low
+    pub end-low : high ≤ last → 2 * y ≤ u low + u high → NearestStep u last y low
     end-low h i =
         record {
           in-range = omega (arith, b .apart);
@@ -61,7 +61,7 @@ module _ {u : ℕ → ℕ} {last y low high below above : ℕ} (b : Between u la
           below = λ p. subst (λ (n : ℕ). 2 * y ≤ u low + u n) (omega (arith, b .apart)) i;
         }
 
-    pub end-high : high ≤ last → u low + u high < 2 * y → Found u last y high
+    pub end-high : high ≤ last → u low + u high < 2 * y → NearestStep u last y high
     end-high h i =
         record {
           in-range = h;
@@ -81,7 +81,7 @@ module _ (low high reach stride : ℕ) (p : 0 < reach) (e : stride ≡ min (4 * 
   next-down by f = record { inside = λ h. (omega (arith, p), omega (arith, p)); stride-positive = omega (arith, p, e); stride-small = omega (arith, e) }
 
 -- what is nearer to the number of a step than half the gap has that step
-pub near-found : (g : ℕ) (u : ℕ → ℕ) (last y n : ℕ) → ((i j : ℕ) → i < j → j ≤ last → u i + g ≤ u j) → n ≤ last → 2 * u n < 2 * y + g → 2 * y < 2 * u n + g → Found u last y n
+pub near-found : (g : ℕ) (u : ℕ → ℕ) (last y n : ℕ) → ((i j : ℕ) → i < j → j ≤ last → u i + g ≤ u j) → n ≤ last → 2 * u n < 2 * y + g → 2 * y < 2 * u n + g → NearestStep u last y n
 near-found g u last y n apart h l f =
     record {
       in-range = h;

@@ -14,7 +14,7 @@ pub record Rising (d : Decoder) (t : List ℕ) (last gap : ℕ) : Type 0 where
   pub apart : (i j : ℕ) → i < j → j ≤ last → rawBy d t i + gap ≤ rawBy d t j
 
 -- where u i is the number of the step i: y is above half way from the step before n to n, and at most half way from n to the step after it
-pub record Found (u : ℕ → ℕ) (last y n : ℕ) : Type 0 where
+pub record NearestStep (u : ℕ → ℕ) (last y n : ℕ) : Type 0 where
   pub in-range : n ≤ last
   pub above : (m : ℕ) → m + 1 ≡ n → u m + u n < 2 * y
   pub below : n < last → 2 * y ≤ u n + u (n + 1)

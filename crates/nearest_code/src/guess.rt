@@ -2,7 +2,7 @@
 // (The remainders change no number that occurs. They show that products fit words.)
 ghost use Prim.Native.Nat.{_^_, _≤_, _<_};
 use super::least;
-use super::lines::Line;
+use super::log_line::LogLine;
 use decode::decoder::Decoder;
 use rules::Setting;
 
@@ -58,7 +58,7 @@ fn log2(z: u64) -> u64
 }
 
 // The step nearest to the signal of z.
-fn on_line(k: Line, last: u64, z: u64) -> u64
+fn on_line(k: LogLine, last: u64, z: u64) -> u64
     requires { ⌜ (k .slope < 2 ^ 29) × (last < 2 ^ 16) ⌝ }
 {
     let rise = k.slope * log2(z);
@@ -70,7 +70,7 @@ fn on_line(k: Line, last: u64, z: u64) -> u64
 }
 
 // The step of a number above the toe: a step's number is z and the bias, over 2^29 and rounded down.
-fn above_toe(k: Line, d: Decoder, last: u64, y: u64) -> u64
+fn above_toe(k: LogLine, d: Decoder, last: u64, y: u64) -> u64
     requires { ⌜ (k .slope < 2 ^ 29) × (last < 2 ^ 16) × (y < 2 ^ 33) ⌝ }
 {
     let sum = UNIT * y + UNIT / 2;
@@ -106,7 +106,7 @@ fn on_curve(s: Setting, d: Decoder, last: u64, y: u64) -> u64
     if LIMIT <= y {
         return last;
     }
-    above_toe(Line::of(s), d, last, y)
+    above_toe(LogLine::of(s), d, last, y)
 }
 
 // The step of y, but for some steps.

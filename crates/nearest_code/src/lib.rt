@@ -4,10 +4,10 @@ ghost use Prim.Native.Nat.{_^_, _<_, min};
 ghost use Rattle.rules.specs.Setting.{named};
 ghost use Rattle.curves.specs.Gap.{gapOf};
 ghost use Rattle.decode.specs.Decoded.{rawBy};
-ghost use Rattle.nearest_code.specs.Search.{Rising, Found};
+ghost use Rattle.nearest_code.specs.Search.{Rising, NearestStep};
 
 mod guess;
-mod lines;
+mod log_line;
 
 use decode::decoder::Decoder;
 use rules::Setting;
@@ -24,7 +24,7 @@ fn least(a: u64, b: u64) -> u64
 fn search(d: Decoder, t: &[u64; 128], last: u64, gap: u64, y: u64, first: u64) -> u64
     requires { ⌜ Rising d (now t) last gap ⌝ }
     requires { ⌜ y < 2 ^ 62 ⌝ }
-    ensures { λ r. ⌜ Found (rawBy d (now (t .entry))) last y r ⌝ }
+    ensures { λ r. ⌜ NearestStep (rawBy d (now (t .entry))) last y r ⌝ }
 {
     let mut low: u64 = 0;
     let mut high = last + 1;
@@ -62,7 +62,7 @@ fn search(d: Decoder, t: &[u64; 128], last: u64, gap: u64, y: u64, first: u64) -
 pub fn find(s: Setting, d: Decoder, t: &[u64; 128], last: Step, y: u64) -> Step
     requires { ⌜ Rising d (now t) (last .0) (gapOf (named (s .curve))) ⌝ }
     requires { ⌜ y < 2 ^ 62 ⌝ }
-    ensures { λ r. ⌜ Found (rawBy d (now (t .entry))) (last .0) y (r .0) ⌝ }
+    ensures { λ r. ⌜ NearestStep (rawBy d (now (t .entry))) (last .0) y (r .0) ⌝ }
 {
     let gap = curves::gap_of(curves::name_of(s.curve));
     let first = guess::guess(s, d, last.0, y);

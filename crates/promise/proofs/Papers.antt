@@ -23,7 +23,7 @@ use Rattle.decoded_nearest.specs.Nearest.{NearestNumbers}
 use Rattle.decoded_nearest.proofs.Theorems.{nearest-numbers}
 use Rattle.way_back.specs.Back.{pixelFor}
 use Rattle.strip.proofs.First.{at-start, at-later}
-use Rattle.promise.specs.Words.{HoldsPixel, Accepted, madeBy, made}
+use Rattle.promise.specs.Words.{HoldsPixel, Accepted, acesStripBy, acesStrip}
 use Rattle.promise.proofs.Strips.{whole-records}
 use Rattle.rules.specs.Pixels.{acesOf}
 
@@ -47,7 +47,7 @@ module _ (number : Setting → ℕ → ℤ) (near : NearestNumbers number) where
       (nearest-numbers number near s (h .valid) (p .blue .0) (h .pixel .blue))
 
   -- THE ACES STRIP is the same, byte for byte
-  pub papers-alone : (pixels : List ℕ) (n : ℕ) → Accepted pixels n → madeBy number pixels ≡ made pixels
+  pub papers-alone : (pixels : List ℕ) (n : ℕ) → Accepted pixels n → acesStripBy number pixels ≡ acesStrip pixels
   papers-alone pixels n a =
       rw (whole-records pixels n a)
       (same-written (λ r. acesRecord (settingOf r) (acesOf (number (settingOf r)) (matrixOf (settingOf r)) (pixelIn r)))

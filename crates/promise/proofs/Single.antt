@@ -2,14 +2,8 @@
 -- Assumes nothing.
 use mathlib.Core.Path.{_≡_, refl, ap, sym, _∙_, subst}
 use mathlib.Core.List.{List}
-use Prim.Native.Nat.{ℕ, _+_, _*_, _^_, _≤_, _<_}
-use native.Mathlib.Nat.{le-trans}
-use native.Mathlib.Omega.{arith}
-use lib.Dec.{lit≤, lit<}
-use lib.IntN.{ℤ, natAbs}
+use Prim.Native.Nat.{ℕ, _+_, _*_, _<_}
 use lib.ListN.{length, drop}
-use Rattle.whole.specs.Parts.{up, dn}
-use Rattle.whole.proofs.Reflect.{abs-is}
 use Rattle.rules.specs.declared.Check.{Check}
 use Rattle.rules.specs.declared.Check.the-variants.{Passed, Refused}
 use Rattle.rules.specs.declared.Found.{Found}
@@ -28,7 +22,7 @@ use Rattle.rules.specs.WayBack.{foundCheck}
 use Rattle.rules.proofs.Records.{FitsRecord, value-small, drop-bytes, read-setting, read-channels, write-read, of-to, to-of, bits-fit, length-record}
 use Rattle.rules.proofs.Settings.{both, refused-never}
 use Rattle.decode.specs.Decoded.{decoded}
-use Rattle.aces_inverse.specs.Given.{Small3, Given}
+use Rattle.aces_inverse.specs.Reach.{Small3, InReach}
 use Rattle.aces_inverse.proofs.Inverse.{aces-small}
 use Rattle.decode.proofs.Distance.{decoded-small}
 use Rattle.way_back.specs.Back.{pixelFor}
@@ -38,17 +32,14 @@ use Rattle.record_conversion.specs.Conversions.{pixelToAces, acesToPixel}
 use Rattle.record_conversion.proofs.Channels.{codes-pixel}
 use Rattle.record_conversion.proofs.EveryKind.{kind-valid}
 use Rattle.record_conversion.proofs.Good.{Good}
+use Rattle.record_conversion.proofs.SceneBits.{small-fits}
 use Rattle.promise.specs.Words.{given, HoldsPixel, Without, OnlyPixel, refusalOf}
 use Rattle.rules.specs.Pixels.{IsPixel}
 use Rattle.rules.specs.Conversions.{channelChecks, pixelFound}
 use Rattle.aces.specs.OfPixel.{pixelAces}
 
--- ---- numbers in their bytes
-below : (x : ℤ) → natAbs x ≤ 2 ^ 38 → (2 * up x < 256 ^ numberBytes) × (2 * dn x ≤ 256 ^ numberBytes)
-below x h = (omega (arith, abs-is x), omega (arith, abs-is x))
-
 -- the ACES numbers of a pixel are small
-pixel-given : (s : Setting) → Valid s → (p : Pixel) → IsPixel s p → Given (pixelAces s p .red .0) (pixelAces s p .green .0) (pixelAces s p .blue .0)
+pixel-given : (s : Setting) → Valid s → (p : Pixel) → IsPixel s p → InReach (pixelAces s p .red .0) (pixelAces s p .green .0) (pixelAces s p .blue .0)
 pixel-given s v p i =
     aces-small s v (decoded s (p .red .0)) (decoded s (p .green .0)) (decoded s (p .blue .0))
     (record {
@@ -68,15 +59,15 @@ fits-setting : (r : List ℕ) → IsBytes r → FitsSetting (settingOf r)
 fits-setting r h = record { curve = h 0; width = h 1; ei = value-small 2 (drop 2 r) (drop-bytes 2 r h) }
 
 -- ---- what is read of an ACES record that was written
-module _ (s : Setting) (f : FitsSetting s) (a : Triple) (g : Given (a .red .0) (a .green .0) (a .blue .0)) where
+module _ (s : Setting) (f : FitsSetting s) (a : Triple) (g : InReach (a .red .0) (a .green .0) (a .blue .0)) where
   abbrev channels : Channels
   channels = record { red = toBits numberBytes (a .red .0); green = toBits numberBytes (a .green .0); blue = toBits numberBytes (a .blue .0) }
 
   fits : FitsRecord numberBytes s channels
   fits =
-      let r = below (a .red .0) (g .red) in
-      let e = below (a .green .0) (g .green) in
-      let b = below (a .blue .0) (g .blue) in
+      let r = small-fits (a .red .0) (g .red) in
+      let e = small-fits (a .green .0) (g .green) in
+      let b = small-fits (a .blue .0) (g .blue) in
       record {
         curve = f .curve;
         width = f .width;
@@ -92,9 +83,9 @@ module _ (s : Setting) (f : FitsSetting s) (a : Triple) (g : Given (a .red .0) (
   pub triple-read : tripleIn (acesRecord s a) ≡ a
   triple-read =
       let e = read-channels numberBytes s channels fits in
-      let r = below (a .red .0) (g .red) in
-      let n = below (a .green .0) (g .green) in
-      let b = below (a .blue .0) (g .blue) in
+      let r = small-fits (a .red .0) (g .red) in
+      let n = small-fits (a .green .0) (g .green) in
+      let b = small-fits (a .blue .0) (g .blue) in
       let er = ap (λ (c : Channels). ofBits numberBytes (c .red)) e ∙ of-to numberBytes (a .red .0) (r .0) (r .1) in
       let eg = ap (λ (c : Channels). ofBits numberBytes (c .green)) e ∙ of-to numberBytes (a .green .0) (n .0) (n .1) in
       let eb = ap (λ (c : Channels). ofBits numberBytes (c .blue)) e ∙ of-to numberBytes (a .blue .0) (b .0) (b .1) in
@@ -185,7 +176,7 @@ module _ (r : List ℕ) (g : Good pixelToAces r) where
   pixel : IsPixel setting (pixelIn r)
   pixel = codes-pixel setting r (checked .1)
 
-  small : Given (pixelAces setting (pixelIn r) .red .0) (pixelAces setting (pixelIn r) .green .0) (pixelAces setting (pixelIn r) .blue .0)
+  small : InReach (pixelAces setting (pixelIn r) .red .0) (pixelAces setting (pixelIn r) .green .0) (pixelAces setting (pixelIn r) .blue .0)
   small = pixel-given setting (checked .0) (pixelIn r) pixel
 
   same-setting : settingOf (pixelToAces .bytes r) ≡ setting

@@ -20,7 +20,7 @@ use Rattle.record_conversion.proofs.Good.{Good}
 use Rattle.strip_passes.proofs.Cut.{length-at, length-written}
 use Rattle.strip.proofs.First.{at-start, at-later, all-done}
 use Rattle.strip.proofs.Back.{Whole}
-use Rattle.promise.specs.Words.{Accepted, HoldsPixel, made}
+use Rattle.promise.specs.Words.{Accepted, HoldsPixel, acesStrip}
 use Rattle.rules.specs.Conversions.{channelChecks}
 
 -- the k-th record that is written is that of the k-th record
@@ -74,14 +74,14 @@ module _ (pixels : List ℕ) (n : ℕ) (a : Accepted pixels n) where
   whole-records = ap (λ (m : ℕ). m / pixelSize) (a .long) ∙ mul-div-cancel n (lit< tt)
 
   -- and its ACES strip too
-  pub made-records : made pixels ≡ written (pixelToAces .bytes) (records pixelSize n pixels)
-  made-records = ap (λ (m : ℕ). written (pixelToAces .bytes) (records pixelSize m pixels)) whole-records
+  pub aces-strip-records : acesStrip pixels ≡ written (pixelToAces .bytes) (records pixelSize n pixels)
+  aces-strip-records = ap (λ (m : ℕ). written (pixelToAces .bytes) (records pixelSize m pixels)) whole-records
 
-  pub made-long : length (made pixels) ≡ n * numbersSize
-  made-long = ap length made-records ∙ length-written (pixelToAces .bytes) numbersSize aces-long pixelSize n pixels
+  pub aces-strip-long : length (acesStrip pixels) ≡ n * numbersSize
+  aces-strip-long = ap length aces-strip-records ∙ length-written (pixelToAces .bytes) numbersSize aces-long pixelSize n pixels
 
   -- the k-th is that of the k-th pixel record
-  pub made-at : (k : ℕ) → k < n → recordAt numbersSize k (made pixels) ≡ pixelToAces .bytes (recordAt pixelSize k pixels)
-  made-at k h =
-      ap (recordAt numbersSize k) (made-records ∙ sym (append-nil (written (pixelToAces .bytes) (records pixelSize n pixels))))
+  pub aces-strip-at : (k : ℕ) → k < n → recordAt numbersSize k (acesStrip pixels) ≡ pixelToAces .bytes (recordAt pixelSize k pixels)
+  aces-strip-at k h =
+      ap (recordAt numbersSize k) (aces-strip-records ∙ sym (append-nil (written (pixelToAces .bytes) (records pixelSize n pixels))))
       ∙ written-at (pixelToAces .bytes) numbersSize aces-long pixelSize n pixels [] k h

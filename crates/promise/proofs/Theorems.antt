@@ -46,9 +46,9 @@ use Rattle.strip.proofs.Join.{whole-answer}
 use Rattle.strip.proofs.Back as back
 use Rattle.way_back.specs.Back.{pixelFor, wayBackResult}
 use Rattle.way_back.proofs.Theorems.{found-gives, one-pixel, nothing-gives}
-use Rattle.promise.specs.Words.{Accepted, HoldsPixel, IsGrey, made, numberIn, stepIn, NearExact, Without, OnlyPixel, SomeWithout, FirstWithout, refusalOf, refusedAt, ReportsFirst, WithoutPixel, IsOnlyPixel, GivesOnly}
+use Rattle.promise.specs.Words.{Accepted, HoldsPixel, IsGrey, acesStrip, numberIn, stepIn, NearExact, Without, OnlyPixel, SomeWithout, FirstWithout, refusalOf, refusedAt, ReportsFirst, WithoutPixel, IsOnlyPixel, GivesOnly}
 use Rattle.promise.proofs.Single.{same-triple, back-passes, back-same, passed-only, not-both, refused-without, refusal-number}
-use Rattle.promise.proofs.Strips.{written-at, bytes-at, aces-long, accepted-good, accepted-whole, made-records, made-long, made-at}
+use Rattle.promise.proofs.Strips.{written-at, bytes-at, aces-long, accepted-good, accepted-whole, aces-strip-records, aces-strip-long, aces-strip-at}
 
 taken-back : (r : List ℕ) → Good pixelToAces r → (recordCheck acesToPixel (pixelToAces .bytes r) ≡ check.Check.Passed) × (acesToPixel .bytes (pixelToAces .bytes r) ≡ r)
 taken-back r g = (back-passes r g, back-same r g)
@@ -63,27 +63,27 @@ called : (c : Conversion) (input output : List ℕ) (n : ℕ) (after : List ℕ)
 called c input output n after e w = (ap stripResult (sym e), ap (outputAfter c input output) (sym e) ∙ w)
 
 -- what pixel to ACES writes for an accepted strip, into an output long enough, is the ACES strip made from it; the bytes beyond are as they were
-pub made-is-written : (pixels output : List ℕ) (n : ℕ) → Accepted pixels n → n * numbersSize ≤ length output
-    → (resultOf pixelToAces pixels output ≡ done (n ∷ [])) × (stripAfter pixelToAces pixels output ≡ made pixels ++ drop (n * numbersSize) output)
+pub aces-strip-is-written : (pixels output : List ℕ) (n : ℕ) → Accepted pixels n → n * numbersSize ≤ length output
+    → (resultOf pixelToAces pixels output ≡ done (n ∷ [])) × (stripAfter pixelToAces pixels output ≡ acesStrip pixels ++ drop (n * numbersSize) output)
 unfolding outputAfter
-made-is-written pixels output n a room =
-    called pixelToAces pixels output n (made pixels ++ drop (n * numbersSize) output) (back.whole-done pixelToAces pixels output n (lit< tt) (accepted-whole pixels n a output room))
-    (ap (λ (l : List ℕ). l ++ drop (n * numbersSize) output) (sym (made-records pixels n a)))
+aces-strip-is-written pixels output n a room =
+    called pixelToAces pixels output n (acesStrip pixels ++ drop (n * numbersSize) output) (back.whole-done pixelToAces pixels output n (lit< tt) (accepted-whole pixels n a output room))
+    (ap (λ (l : List ℕ). l ++ drop (n * numbersSize) output) (sym (aces-strip-records pixels n a)))
 
 -- 1. "For any two accepted pixel strips, the strips are equal exactly when the ACES strips made from them are equal."
-pub equal-strips : (pixels others : List ℕ) (n m : ℕ) → Accepted pixels n → Accepted others m → (pixels ≡ others) ↔ (made pixels ≡ made others)
-equal-strips pixels others n m a b = (λ e. ap made e, back-equal)
+pub equal-strips : (pixels others : List ℕ) (n m : ℕ) → Accepted pixels n → Accepted others m → (pixels ≡ others) ↔ (acesStrip pixels ≡ acesStrip others)
+equal-strips pixels others n m a b = (λ e. ap acesStrip e, back-equal)
   where
-    count : made pixels ≡ made others → m ≡ n
-    count e = omega (arith, made-long pixels n a, made-long others m b, ap length e)
+    count : acesStrip pixels ≡ acesStrip others → m ≡ n
+    count e = omega (arith, aces-strip-long pixels n a, aces-strip-long others m b, ap length e)
 
-    back-equal : made pixels ≡ made others → pixels ≡ others
+    back-equal : acesStrip pixels ≡ acesStrip others → pixels ≡ others
     back-equal e =
         let c = subst (Accepted others) (count e) b in
-        back.same-strip pixelToAces aces-long acesToPixel taken-back pixels others (made pixels) (made others) n (a .bytes) (b .bytes)
-        (accepted-whole pixels n a (made pixels) (le-of-eq (sym (made-long pixels n a))))
-        (accepted-whole others n c (made others) (le-of-eq (sym (made-long others n c))))
-        (sym (made-records pixels n a) ∙ e ∙ made-records others n c)
+        back.same-strip pixelToAces aces-long acesToPixel taken-back pixels others (acesStrip pixels) (acesStrip others) n (a .bytes) (b .bytes)
+        (accepted-whole pixels n a (acesStrip pixels) (le-of-eq (sym (aces-strip-long pixels n a))))
+        (accepted-whole others n c (acesStrip others) (le-of-eq (sym (aces-strip-long others n c))))
+        (sym (aces-strip-records pixels n a) ∙ e ∙ aces-strip-records others n c)
 
 -- 2. "each ACES number made from it is less than .. from what the exact curve and matrix give"
 -- the i-th number that is written
@@ -103,9 +103,9 @@ record-within r g h i l =
     s : Setting
     s = settingOf r
 
-pub strip-within : (pixels : List ℕ) (n : ℕ) → Accepted pixels n → (k : ℕ) → k < n → (i : ℕ) → i < 3 → NearExact i (recordAt pixelSize k pixels) (recordAt numbersSize k (made pixels))
+pub strip-within : (pixels : List ℕ) (n : ℕ) → Accepted pixels n → (k : ℕ) → k < n → (i : ℕ) → i < 3 → NearExact i (recordAt pixelSize k pixels) (recordAt numbersSize k (acesStrip pixels))
 strip-within pixels n a k h i l =
-    subst (NearExact i (recordAt pixelSize k pixels)) (sym (made-at pixels n a k h)) (record-within (recordAt pixelSize k pixels) (accepted-good pixels n a k h) (a .each k h) i l)
+    subst (NearExact i (recordAt pixelSize k pixels)) (sym (aces-strip-at pixels n a k h)) (record-within (recordAt pixelSize k pixels) (accepted-good pixels n a k h) (a .each k h) i l)
 
 -- DEMAND 2, "three equal codes give three equal ACES numbers", of what the strip holds: each is the code's decoded number
 record-grey : (r : List ℕ) → Good pixelToAces r → HoldsPixel r → (c : ℕ) → IsGrey r c → (i : ℕ) → i < 3 → numberIn i (pixelToAces .bytes r) ≡ decoded (settingOf r) c
@@ -125,20 +125,20 @@ record-grey r g h c e i l =
     grey (suc (suc (suc i))) l d = absurd (omega arith)
 
 pub strip-grey : (pixels : List ℕ) (n : ℕ) → Accepted pixels n → (k : ℕ) → k < n → (c : ℕ) → IsGrey (recordAt pixelSize k pixels) c
-    → (i : ℕ) → i < 3 → numberIn i (recordAt numbersSize k (made pixels)) ≡ decoded (settingOf (recordAt pixelSize k pixels)) c
-strip-grey pixels n a k h c e i l = ap (numberIn i) (made-at pixels n a k h) ∙ record-grey (recordAt pixelSize k pixels) (accepted-good pixels n a k h) (a .each k h) c e i l
+    → (i : ℕ) → i < 3 → numberIn i (recordAt numbersSize k (acesStrip pixels)) ≡ decoded (settingOf (recordAt pixelSize k pixels)) c
+strip-grey pixels n a k h c e i l = ap (numberIn i) (aces-strip-at pixels n a k h) ∙ record-grey (recordAt pixelSize k pixels) (accepted-good pixels n a k h) (a .each k h) c e i l
 
 -- 3. "The way back, given an output long enough, turns the ACES strip made from it into the same pixel strip, byte for byte, and reports its number
 -- of records."
 pub way-back-returns : (pixels output : List ℕ) (n : ℕ) → Accepted pixels n → length pixels ≤ length output
-    → (resultOf acesToPixel (made pixels) output ≡ done (n ∷ [])) × (stripAfter acesToPixel (made pixels) output ≡ pixels ++ drop (length pixels) output)
+    → (resultOf acesToPixel (acesStrip pixels) output ≡ done (n ∷ [])) × (stripAfter acesToPixel (acesStrip pixels) output ≡ pixels ++ drop (length pixels) output)
 way-back-returns pixels output n a room =
-    let w = accepted-whole pixels n a (made pixels) (le-of-eq (sym (made-long pixels n a))) in
-    rw (made-records pixels n a)
+    let w = accepted-whole pixels n a (acesStrip pixels) (le-of-eq (sym (aces-strip-long pixels n a))) in
+    rw (aces-strip-records pixels n a)
     (called acesToPixel (written (pixelToAces .bytes) (records pixelSize n pixels)) output n (pixels ++ drop (length pixels) output)
     (back.whole-done acesToPixel (written (pixelToAces .bytes) (records pixelSize n pixels)) output n (lit< tt)
-    (back.back-whole pixelToAces aces-long acesToPixel taken-back pixels (made pixels) n (a .bytes) w output room))
-    (back.back-written pixelToAces aces-long acesToPixel taken-back pixels (made pixels) n (a .bytes) w output))
+    (back.back-whole pixelToAces aces-long acesToPixel taken-back pixels (acesStrip pixels) n (a .bytes) w output room))
+    (back.back-written pixelToAces aces-long acesToPixel taken-back pixels (acesStrip pixels) n (a .bytes) w output))
 
 refusal-positive : (s : Setting) → 0 < refusalOf s
 refusal-positive s = go (settingCheck s)

@@ -39,13 +39,13 @@ pub record Accepted (pixels : List ℕ) (n : ℕ) : Type 0 where
 
 -- the ACES strip that numbers of the codes make of a pixel strip: "one record for each of its records, in order, without the bytes beyond
 -- the last"
-abbrev pub madeBy : (number : Setting → ℕ → ℤ) → List ℕ → List ℕ
-madeBy number pixels = written (pixelToAces number .bytes) (records pixelSize (length pixels / pixelSize) pixels)
+abbrev pub acesStripBy : (number : Setting → ℕ → ℤ) → List ℕ → List ℕ
+acesStripBy number pixels = written (pixelToAces number .bytes) (records pixelSize (length pixels / pixelSize) pixels)
 
 -- "The ACES strip made from it": by the decoded numbers. (That it is "what pixel to ACES writes for it into an output long enough" is the
--- theorem made-is-written.)
-abbrev pub made : List ℕ → List ℕ
-made = madeBy decoded
+-- theorem aces-strip-is-written.)
+abbrev pub acesStrip : List ℕ → List ℕ
+acesStrip = acesStripBy decoded
 
 -- the i-th number of an ACES record
 abbrev pub numberIn : (i : ℕ) → List ℕ → ℤ

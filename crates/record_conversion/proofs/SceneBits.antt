@@ -1,21 +1,28 @@
--- The scene number of a code, in the bytes of a record: it fits them, and is read back.
+-- Numbers in the bytes of a record: those of records are small enough, and the scene number of a code fits and is read back.
 -- Assumes nothing.
 use mathlib.Core.Path.{_≡_}
 use Prim.Native.Nat.{ℕ, _*_, _^_, _≤_, _<_}
+use native.Mathlib.Nat.{le-trans}
+use native.Mathlib.Omega.{arith}
+use lib.Dec.{lit≤}
+use lib.IntN.{ℤ, natAbs}
 use Rattle.whole.specs.Parts.{up, dn}
-use Rattle.whole.proofs.Words.{parts-fit}
+use Rattle.whole.proofs.Reflect.{abs-is}
 use Rattle.rules.specs.declared.Check.the-variants.{Passed}
 use Rattle.rules.specs.declared.Setting.{Setting}
 use Rattle.rules.specs.Setting.{codeCheck, Valid}
 use Rattle.rules.specs.Record.{ofBits, numberBytes}
 use Rattle.rules.proofs.Records.{of-to, bits-fit}
 use Rattle.decode.specs.Decoded.{decoded}
-use Rattle.decode.proofs.Fit.{decoded-fits}
+use Rattle.decode.proofs.Distance.{decoded-small}
 use Rattle.record_conversion.specs.Conversions.{sceneBits}
+
+pub small-fits : (x : ℤ) → natAbs x ≤ 2 ^ 38 → (2 * up x < 256 ^ numberBytes) × (2 * dn x ≤ 256 ^ numberBytes)
+small-fits x h = (omega (arith, abs-is x), omega (arith, abs-is x))
 
 module _ (s : Setting) (v : Valid s) (n : ℕ) (e : codeCheck s n ≡ Passed) where
   below : (2 * up (decoded s n) < 256 ^ numberBytes) × (2 * dn (decoded s n) ≤ 256 ^ numberBytes)
-  below = parts-fit (decoded s n) (decoded-fits s v n e)
+  below = small-fits (decoded s n) (le-trans (decoded-small s v n e) (lit≤ tt))
 
   pub scene-fits : sceneBits s n < 256 ^ numberBytes
   scene-fits = bits-fit numberBytes (decoded s n) (below .0) (below .1)

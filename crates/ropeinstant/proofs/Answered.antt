@@ -6,7 +6,7 @@ use Prim.Native.Nat.{ℕ}
 use Rattle.rules.specs.declared.Answer.{Answer}
 use Rattle.rules.specs.Result.{stripResult}
 use Rattle.rules.specs.Strip.{Conversion, Converts, outputAfter}
-use Rattle.ropeinstant.specs.Given.{place, Gives}
+use Rattle.ropeinstant.specs.Call.{place, Gives}
 
 pub answered : {c : Conversion} {input output : List ℕ} {a : Answer} {n at : ℕ} {after : List ℕ}
     → Converts c input output a after → n ≡ stripResult a .number → at ≡ place (stripResult a) → Gives c input output n at after

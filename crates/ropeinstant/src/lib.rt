@@ -4,7 +4,7 @@ ghost use mathlib.Core.Path.{_≡_};
 ghost use Rattle.record_conversion.specs.Conversions.{pixelToScene, sceneToPixel, pixelToAces, acesToPixel};
 ghost use Rattle.rules.specs.Result.{stripResult};
 ghost use Rattle.strip.specs.Lent.{LentBytes};
-ghost use Rattle.ropeinstant.specs.Given.{place, Gives};
+ghost use Rattle.ropeinstant.specs.Call.{place, Gives};
 ghost use Rattle.ropeinstant.specs.Floats.{decoding, encoding, GivesValues};
 use float_decode::FloatDecoding;
 use float_decode::FloatPixel;

@@ -24,7 +24,7 @@ use Rattle.decode.specs.Gap.{gapOf}
 use Rattle.decode.proofs.Distance.{decodes-near, decodes-small}
 use Rattle.decode.proofs.Theorems.{decoding}
 use Rattle.encode.proofs.Theorems.{encoded-passes, encode-near}
-use Rattle.aces_inverse.specs.Given.{Small3, Given}
+use Rattle.aces_inverse.specs.Reach.{Small3, InReach}
 use Rattle.aces_inverse.specs.Farthest.{farthest}
 use Rattle.aces_inverse.specs.Inverse.{candidate}
 use Rattle.aces_inverse.proofs.Inverse.{near-aces-small, candidate-near}
@@ -125,7 +125,7 @@ module _ (e : ℕ) (s : Setting) (v : Valid s) (t : NearEnough e s) (a : Triple)
 
   -- and what it finds is the candidate
   abbrev Found′ : Found → Type 0
-  Found′ f = (Given (a .red .0) (a .green .0) (a .blue .0)) × (found.Found.Pixel (candidatePixel s a) ≡ f)
+  Found′ f = (InReach (a .red .0) (a .green .0) (a .blue .0)) × (found.Found.Pixel (candidatePixel s a) ≡ f)
 
   pub passed-found : foundCheck (pixelNear e s a) ≡ Passed → Found′ (pixelNear e s a)
   passed-found h = go (pixelNear e s a) refl h

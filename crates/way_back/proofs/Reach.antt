@@ -7,11 +7,11 @@ use lib.Dec.{T}
 use Rattle.rules.specs.declared.Triple.{Triple}
 use Rattle.rules.specs.Choice.{choose}
 use Rattle.rules.proofs.Between.{between, small-between, between-small}
-use Rattle.aces_inverse.specs.Given.{Given}
+use Rattle.aces_inverse.specs.Reach.{InReach}
 use Rattle.way_back.specs.Candidate.{inReach, allInReach}
 
 -- numbers that a pixel may have
-pub given-reached : (a : Triple) → Given (a .red .0) (a .green .0) (a .blue .0) → allInReach a ≡ true
+pub given-reached : (a : Triple) → InReach (a .red .0) (a .green .0) (a .blue .0) → allInReach a ≡ true
 unfolding allInReach inReach
 given-reached a g =
     let r : between (2 ^ 38 - 1) (a .red .0) ≡ true = small-between (2 ^ 38 - 1) (a .red .0) (g .red) in
@@ -19,12 +19,12 @@ given-reached a g =
     let b : between (2 ^ 38 - 1) (a .blue .0) ≡ true = small-between (2 ^ 38 - 1) (a .blue .0) (g .blue) in
     rw (r, e, b)
 
-pub reached-given : (a : Triple) → allInReach a ≡ true → Given (a .red .0) (a .green .0) (a .blue .0)
+pub reached-given : (a : Triple) → allInReach a ≡ true → InReach (a .red .0) (a .green .0) (a .blue .0)
 unfolding allInReach inReach
 reached-given a e = go (between (2 ^ 38 - 1) (a .red .0)) (between (2 ^ 38 - 1) (a .green .0)) (between (2 ^ 38 - 1) (a .blue .0)) refl refl refl e
   where
     go : (r g b : Bool) → between (2 ^ 38 - 1) (a .red .0) ≡ r → between (2 ^ 38 - 1) (a .green .0) ≡ g → between (2 ^ 38 - 1) (a .blue .0) ≡ b
-        → choose r (choose g b false) false ≡ true → Given (a .red .0) (a .green .0) (a .blue .0)
+        → choose r (choose g b false) false ≡ true → InReach (a .red .0) (a .green .0) (a .blue .0)
     go true true true p q r e =
         record { red = between-small (2 ^ 38 - 1) (a .red .0) p; green = between-small (2 ^ 38 - 1) (a .green .0) q; blue = between-small (2 ^ 38 - 1) (a .blue .0) r }
     go true true false p q r e = absurd (subst T (sym e) tt)

@@ -7,7 +7,7 @@ ghost use Rattle.rules.specs.Result.{single};
 ghost use Rattle.rules.specs.Setting.{Valid};
 ghost use Rattle.rules.specs.Matrix.{matrixOf};
 ghost use Rattle.rules.specs.WayBack.{within, within3, tried, codesFound, foundCheck};
-ghost use Rattle.aces_inverse.specs.Given.{Given};
+ghost use Rattle.aces_inverse.specs.Reach.{InReach};
 ghost use Rattle.decode.specs.Decoded.{decoded};
 ghost use Rattle.decode.specs.Ready.{Ready};
 ghost use Rattle.way_back.specs.Back.{pixelFor, backResult, wayBackResult};
@@ -71,7 +71,7 @@ fn same_triple(a: Triple, b: Triple) -> bool
 // The only pixel that can give the numbers.
 fn candidate(s: Setting, d: Decoder, t: &[u64; 128], a: Triple) -> Pixel
     requires { ⌜ Ready s d (now t) ⌝ }
-    requires { ⌜ Given (a .red .0) (a .green .0) (a .blue .0) ⌝ }
+    requires { ⌜ InReach (a .red .0) (a .green .0) (a .blue .0) ⌝ }
     ensures { λ p. ⌜ p ≡ candidatePixel s a ⌝ }
 {
     let x = aces_inverse::candidate(s, a);

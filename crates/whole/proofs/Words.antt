@@ -19,11 +19,6 @@ mag-of (negsuc n) p q = q
 pub fitsZ : (e : Ex) → hi e < lo e + 9223372036854775808 → lo e ≤ hi e + 9223372036854775808 → SFits w64 (val e)
 fitsZ e p q = record { sfits = mag-of (val e) (omega (arith, dif e, one-zero (val e))) (omega (arith, dif e, one-zero (val e))) }
 
--- and the parts of an integer that does
-pub parts-fit : (z : ℤ) → SFits w64 z → (2 * up z < 18446744073709551616) × (2 * dn z ≤ 18446744073709551616)
-parts-fit (pos n) f = let h : n < 9223372036854775808 = f .sfits in (omega arith, omega arith)
-parts-fit (negsuc n) f = let h : n < 9223372036854775808 = f .sfits in (omega arith, omega arith)
-
 -- what is read of the bits of z, which is z where z fits
 abbrev pub readBack : ℤ → ℤ
 readBack z = toZ w64 (ofZ w64 z)

@@ -6,18 +6,21 @@ ghost use lib.IntN.{pos, natAbs};
 ghost use lib.Signed.{_<ℤ_, shrZ};
 ghost use Rattle.whole.specs.Parts.{up, dn};
 
-// The upper 64 bits of a * b, by the digits of a and b in base 2^32, column by column.
+// Words are cut into two digits to this base.
+const BASE: u64 = 1 << 32;
+
+// The upper 64 bits of a * b, by their digits, column by column.
 pub fn high_product(a: u64, b: u64) -> u64
     ensures { λ r. ⌜ r ≡ a * b / 2 ^ 64 ⌝ }
 {
-    let a1 = a / 4294967296;
-    let a0 = a % 4294967296;
-    let b1 = b / 4294967296;
-    let b0 = b % 4294967296;
-    let first = a0 * b0 / 4294967296;
+    let a1 = a / BASE;
+    let a0 = a % BASE;
+    let b1 = b / BASE;
+    let b0 = b % BASE;
+    let first = a0 * b0 / BASE;
     let second = a1 * b0 + first;
-    let third = a0 * b1 + second % 4294967296;
-    a1 * b1 + second / 4294967296 + third / 4294967296
+    let third = a0 * b1 + second % BASE;
+    a1 * b1 + second / BASE + third / BASE
 }
 
 // A signed number without its sign.

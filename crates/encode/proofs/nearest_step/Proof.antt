@@ -10,7 +10,7 @@ use Rattle.whole.proofs.Words.{read-back}
 use Rattle.rules.specs.Setting.{lastOf}
 use Rattle.decode.specs.Decoded.{offset, raw}
 use Rattle.decode.proofs.Theorems.{raw-rises}
-use Rattle.encode.proofs.Midpoints.{found-within, first-within}
+use Rattle.encode.proofs.Midpoints.{step-within, first-within}
 use Rattle.encode.proofs.Codes.{scene-passed, rising, step-is}
 use Rattle.encode.proofs.Shifted as shifted
 use Rattle.encode.proofs.nearest_step.Statement.{statement}
@@ -50,7 +50,7 @@ find-requires c κs = (
 returns-2 : tie.Need-returns-2
 returns-2 c =
     step-is (c .before .before .before .before .args .s) (c .before .before .before .before .pre .0 .valid) (c .before .before .before .before .args .x .0) (c .find .result .0)
-    (found-within _ _ (c .before .before .before .before .args .x .0) _ (c .find .result .0)
+    (step-within _ _ (c .before .before .before .before .args .x .0) _ (c .find .result .0)
     (shifted.shifted (c .before .before .before .before .args .x .0) (fits (c .before .before .before)) (above (c .before .before)) (high (c .before .before)))
     (rw (c .before .before .before .before .pre .0 .decoder, c .before .before .before .before .pre .0 .table, c .before .last-step .ensures) at (c .find .ensures)))
 

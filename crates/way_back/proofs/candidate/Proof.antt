@@ -11,13 +11,13 @@ use Rattle.rules.specs.Setting.{Valid}
 use Rattle.rules.specs.Encoding.{sceneCheck}
 use Rattle.rules.proofs.Between.{scene-passes}
 use Rattle.encode.specs.Encoded.{encoded}
-use Rattle.aces_inverse.specs.Given.{Given}
+use Rattle.aces_inverse.specs.Reach.{InReach}
 use Rattle.aces_inverse.specs.Inverse.{candidate}
 use Rattle.aces_inverse.proofs.Inverse.{candidate-small}
 use Rattle.way_back.proofs.candidate.Statement.{statement}
 use Rattle.way_back.proofs.candidate.Tie as tie
 
-passes : (s : Setting) → Valid s → {a b c x : ℤ} → Given a b c → (k : ℕ) → k < 3 → x ≡ candidate s k a b c → sceneCheck x ≡ Passed
+passes : (s : Setting) → Valid s → {a b c x : ℤ} → InReach a b c → (k : ℕ) → k < 3 → x ≡ candidate s k a b c → sceneCheck x ≡ Passed
 passes s v {a} {b} {c} g k h e = ap sceneCheck e ∙ scene-passes (candidate s k a b c) (candidate-small s v a b c g k h)
 
 code-of-requires : tie.Need-code-of-requires

@@ -8,5 +8,5 @@ pub record Small3 (k : ℕ) (x y z : ℤ) : Type 0 where
   pub green : natAbs y ≤ k
   pub blue : natAbs z ≤ k
 
-abbrev pub Given : (a b c : ℤ) → Type 0
-Given a b c = Small3 (2 ^ 38) a b c
+abbrev pub InReach : (a b c : ℤ) → Type 0
+InReach a b c = Small3 (2 ^ 38) a b c

@@ -6,105 +6,105 @@ use rules::Setting;
 
 // Above the toe a step's number, less the decoder's bias, is a number z over 2^29, and the signal is slope * log2(z) - start. The slope is
 // in units of 2^-32, the start in units of 2^-48.
-pub struct Line {
+pub struct LogLine {
     pub slope: u64,
     pub start: u64,
 }
 
-impl Line {
-    pub const LOG_C4: Line = Line {
+impl LogLine {
+    pub const LOG_C4: LogLine = LogLine {
         slope: 278294208,
         start: 847037242980705,
     };
 
-    pub const EI160: Line = Line {
+    pub const EI160: LogLine = LogLine {
         slope: 347840407,
         start: 1044274836975159,
     };
 
-    pub const EI200: Line = Line {
+    pub const EI200: LogLine = LogLine {
         slope: 343924171,
         start: 1031170017128729,
     };
 
-    pub const EI250: Line = Line {
+    pub const EI250: LogLine = LogLine {
         slope: 340007934,
         start: 1018064915807323,
     };
 
-    pub const EI320: Line = Line {
+    pub const EI320: LogLine = LogLine {
         slope: 335675380,
         start: 1003566069847556,
     };
 
-    pub const EI400: Line = Line {
+    pub const EI400: LogLine = LogLine {
         slope: 331759143,
         start: 990460124101219,
     };
 
-    pub const EI500: Line = Line {
+    pub const EI500: LogLine = LogLine {
         slope: 327842907,
         start: 977353333929952,
     };
 
-    pub const EI640: Line = Line {
+    pub const EI640: LogLine = LogLine {
         slope: 323511645,
         start: 962857361790921,
     };
 
-    pub const EI800: Line = Line {
+    pub const EI800: LogLine = LogLine {
         slope: 319595408,
         start: 949749727194724,
     };
 
-    pub const EI1000: Line = Line {
+    pub const EI1000: LogLine = LogLine {
         slope: 315679172,
         start: 936641529648574,
     };
 
-    pub const EI1280: Line = Line {
+    pub const EI1280: LogLine = LogLine {
         slope: 311346617,
         start: 922139305989086,
     };
 
-    pub const EI1600: Line = Line {
+    pub const EI1600: LogLine = LogLine {
         slope: 307430381,
         start: 909029982543029,
     };
 
     // of no curve
-    pub const NONE: Line = Line { slope: 0, start: 0 };
+    pub const NONE: LogLine = LogLine { slope: 0, start: 0 };
 
     // The line of a row of curve 3's constants.
-    fn log_c3(row: usize) -> Line
+    fn log_c3(row: usize) -> LogLine
         ensures { λ k. ⌜ k .slope < 2 ^ 29 ⌝ }
     {
         match row {
-            0 => Line::EI160,
-            1 => Line::EI200,
-            2 => Line::EI250,
-            3 => Line::EI320,
-            4 => Line::EI400,
-            5 => Line::EI500,
-            6 => Line::EI640,
-            7 => Line::EI800,
-            8 => Line::EI1000,
-            9 => Line::EI1280,
-            10 => Line::EI1600,
-            _ => Line::NONE,
+            0 => LogLine::EI160,
+            1 => LogLine::EI200,
+            2 => LogLine::EI250,
+            3 => LogLine::EI320,
+            4 => LogLine::EI400,
+            5 => LogLine::EI500,
+            6 => LogLine::EI640,
+            7 => LogLine::EI800,
+            8 => LogLine::EI1000,
+            9 => LogLine::EI1280,
+            10 => LogLine::EI1600,
+            _ => LogLine::NONE,
         }
     }
 
     // The line of a setting. (It goes by the curve's number: to name the curve first took 4 % of the
     // way back's time.)
-    pub fn of(s: Setting) -> Line
+    pub fn of(s: Setting) -> LogLine
         ensures { λ k. ⌜ k .slope < 2 ^ 29 ⌝ }
     {
         let curve = s.curve;
         match curve {
-            LogC3::NUMBER => Line::log_c3(LogC3::row(s.ei)),
-            LogC4::NUMBER => Line::LOG_C4,
-            _ => Line::NONE,
+            LogC3::NUMBER => LogLine::log_c3(LogC3::row(s.ei)),
+            LogC4::NUMBER => LogLine::LOG_C4,
+            _ => LogLine::NONE,
         }
     }
 }
