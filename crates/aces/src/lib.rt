@@ -12,20 +12,14 @@ ghost use Rattle.aces.specs.OfPixel.{pixelAces};
 
 mod entries;
 
+use curves::log_c3::LogC3;
+use curves::log_c4::LogC4;
 use decode::decoder::Decoder;
 use rules::Aces;
-use rules::CurveName;
 use rules::Pixel;
 use rules::Scene;
 use rules::Setting;
 use rules::Triple;
-
-// of no curve
-const NONE: Triple = Triple {
-    red: Aces(0),
-    green: Aces(0),
-    blue: Aces(0),
-};
 
 // A row product over 10^6, rounded once.
 fn over_million(p: i64) -> i64
@@ -81,7 +75,8 @@ fn aces_c4(x: Scene, y: Scene, z: Scene) -> Triple
     }
 }
 
-// The ACES numbers of three scene numbers.
+// The ACES numbers of three scene numbers. (It goes by the curve's number: to name the curve first took
+// 5 % of pixel to ACES. The last arm is of no valid setting.)
 fn aces(s: Setting, x: Scene, y: Scene, z: Scene) -> Triple
     requires { ⌜ Valid s ⌝ }
     requires { ⌜ Number (x .0) ⌝ }
@@ -89,10 +84,11 @@ fn aces(s: Setting, x: Scene, y: Scene, z: Scene) -> Triple
     requires { ⌜ Number (z .0) ⌝ }
     ensures { λ r. ⌜ IsAces (matrixOf s) (x .0) (y .0) (z .0) (r .red .0) (r .green .0) (r .blue .0) ⌝ }
 {
-    match curves::name_of(s.curve) {
-        CurveName::LogC3 => aces_c3(x, y, z),
-        CurveName::LogC4 => aces_c4(x, y, z),
-        CurveName::Unknown => NONE,
+    let curve = s.curve;
+    match curve {
+        LogC3::NUMBER => aces_c3(x, y, z),
+        LogC4::NUMBER => aces_c4(x, y, z),
+        _ => aces_c4(x, y, z),
     }
 }
 

@@ -21,9 +21,6 @@ pub const REST: i64 = 1 << 19;
 
 pub const HALF: i64 = 1 << 18;
 
-// of no curve
-pub const NONE: [[i64; 3]; 3] = [[0; 3]; 3];
-
 pub const BACK_3_HIGH: [[i64; 3]; 3] = [
     [BACK_3[0][0] / P21, BACK_3[0][1] / P21, BACK_3[0][2] / P21],
     [BACK_3[1][0] / P21, BACK_3[1][1] / P21, BACK_3[1][2] / P21],

@@ -9,7 +9,8 @@ ghost use Rattle.aces_inverse.specs.Inverse.{lowRows, highRows, pair, Is
 
 mod entries;
 
-use rules::CurveName;
+use curves::log_c3::LogC3;
+use curves::log_c4::LogC4;
 use rules::Scene;
 use rules::Setting;
 use rules::Triple;
@@ -21,15 +22,16 @@ pub struct Scenes {
     pub blue: Scene,
 }
 
-// The digits of the inverse of a setting's matrix.
+// The digits of the inverse of a setting's matrix. (By the curve's number, as the matrix is chosen.)
 fn high_of(s: Setting) -> [[i64; 3]; 3]
     requires { ⌜ Valid s ⌝ }
     ensures { λ m. ⌜ m ≡ highRows s ⌝ }
 {
-    match curves::name_of(s.curve) {
-        CurveName::LogC3 => entries::BACK_3_HIGH,
-        CurveName::LogC4 => entries::BACK_4_HIGH,
-        CurveName::Unknown => entries::NONE,
+    let curve = s.curve;
+    match curve {
+        LogC3::NUMBER => entries::BACK_3_HIGH,
+        LogC4::NUMBER => entries::BACK_4_HIGH,
+        _ => entries::BACK_4_HIGH,
     }
 }
 
@@ -37,10 +39,11 @@ fn low_of(s: Setting) -> [[i64; 3]; 3]
     requires { ⌜ Valid s ⌝ }
     ensures { λ m. ⌜ m ≡ lowRows s ⌝ }
 {
-    match curves::name_of(s.curve) {
-        CurveName::LogC3 => entries::BACK_3_LOW,
-        CurveName::LogC4 => entries::BACK_4_LOW,
-        CurveName::Unknown => entries::NONE,
+    let curve = s.curve;
+    match curve {
+        LogC3::NUMBER => entries::BACK_3_LOW,
+        LogC4::NUMBER => entries::BACK_4_LOW,
+        _ => entries::BACK_4_LOW,
     }
 }
 

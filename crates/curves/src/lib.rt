@@ -24,12 +24,12 @@ pub fn name_of(curve: u8) -> CurveName
 }
 
 // How far apart the decoded numbers of two codes of a curve are at least, in units.
-pub fn gap_of(curve: CurveName) -> u64
-    ensures { λ r. ⌜ (r ≡ gapOf curve) × (r < 2 ^ 16) ⌝ }
+pub fn gap_of(curve: u8) -> u64
+    ensures { λ r. ⌜ (r ≡ gapOf (named curve)) × (r < 2 ^ 16) ⌝ }
 {
     match curve {
-        CurveName::LogC3 => LogC3::GAP,
-        CurveName::LogC4 => LogC4::GAP,
-        CurveName::Unknown => 0,
+        LogC3::NUMBER => LogC3::GAP,
+        LogC4::NUMBER => LogC4::GAP,
+        _ => 0,
     }
 }

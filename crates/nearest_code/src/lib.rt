@@ -64,7 +64,7 @@ pub fn find(s: Setting, d: Decoder, t: &[u64; 128], last: Step, y: u64) -> Step
     requires { ⌜ y < 2 ^ 62 ⌝ }
     ensures { λ r. ⌜ NearestStep (rawBy d (now (t .entry))) (last .0) y (r .0) ⌝ }
 {
-    let gap = curves::gap_of(curves::name_of(s.curve));
+    let gap = curves::gap_of(s.curve);
     let first = guess::guess(s, d, last.0, y);
     let number = d.raw(t, Step(first));
     if 2 * number < 2 * y + gap && 2 * y < 2 * number + gap {

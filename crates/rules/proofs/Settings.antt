@@ -4,7 +4,7 @@ use mathlib.Core.Bool.{Bool, true, false}
 use mathlib.Core.List.{List, [], _∷_}
 use mathlib.Core.Path.{_≡_, refl, sym, subst}
 use Prim.Native.Nat.{ℕ}
-use borrow.Author.Tests.{eqb-true}
+use borrow.Author.Tests.{eqb-true, ne-eqb}
 use lib.Dec.{T, eqb, eqb→eq}
 use Rattle.rules.specs.declared.Setting.{Setting}
 use Rattle.rules.specs.declared.Check.{Check}
@@ -95,6 +95,9 @@ has-name n e = subst (HasName n) e (go (eqb n 3) (eqb n 4) refl refl)
 -- a valid setting names a curve
 pub valid-named : {A : Type 0} (s : Setting) → Valid s → named (s .curve) ≡ Unknown → A
 valid-named s v e = absurd (subst T (has-name (s .curve) e) (members s v .curve))
+
+pub other-curve : {A : Type 0} (s : Setting) → Valid s → (s .curve ≡ 3 → ⊥) → (s .curve ≡ 4 → ⊥) → A
+other-curve s v f g = valid-named s v (rw (ne-eqb (s .curve) 3 f, ne-eqb (s .curve) 4 g))
 
 -- a fact of each curve is one of a valid setting's
 pub for-curve : (P : CurveName → Type 0) → P LogC3 → P LogC4 → (s : Setting) → Valid s → P (named (s .curve))
