@@ -13,7 +13,8 @@ from pathlib import Path
 ROOT = Path(__file__).resolve().parent.parent
 SCALE = 2 ** 128
 LIFT = 2  # the exponents of every curve are above -2
-SHIFT = {10: 2 ** 13, 12: 2 ** 3, 16: 1}  # 2^63 over the scale of the middle digit's entries
+LEGAL = 140  # the width byte of the legal range
+SHIFT = {10: 2 ** 13, 12: 2 ** 3, 16: 1, LEGAL: 2 ** 4}  # 2^63 over the scale of the middle digit's entries
 getcontext().prec = 120
 
 
@@ -90,11 +91,14 @@ def progression(count, first, ratio, t, c):
     return out
 
 
+def last_step(width):
+    return 3504 if width == LEGAL else 2 ** width - 1
+
+
 def table(curve, width, front, first, ratio):
-    top = 2 ** width - 1
-    count = top // 1024 + 1
+    count = last_step(width) // 1024 + 1
     shift = SHIFT[width]
-    high = progression(count, curve.base ** front * first, squared(ratio, 10), 4 * shift * 2 ** 53 * curve.times, curve.times_over * curve.base ** LIFT)
+    high = progression(count, curve.base ** front * first, squared(ratio, 10), 4 * shift * 2 ** 51 * curve.times, curve.times_over * curve.base ** LIFT)
     middle = progression(32, SCALE, squared(ratio, 5), 2 ** 63 // shift, 1)
     low = progression(32, SCALE, ratio, 2 ** 63, 1)
     out = high + [0] * (64 - count) + middle + low
@@ -108,7 +112,7 @@ def written():
         front, first = seed(c.base, c.over, c.plus + LIFT * c.over - c.minus)
         ratios = ""
         for w in c.widths:
-            zero, ratio = seed(c.base, c.over * (2 ** w - 1), c.rise)
+            zero, ratio = seed(c.base, c.over * last_step(w), c.rise)
             assert zero == 0
             ratios += f"at {w} {ratio} ∷ "
             entries = "".join(f"    {x},\n" for x in table(c, w, front, first, ratio))
@@ -146,10 +150,10 @@ def written():
 
 
 def line(curve):
-    """where z is 2^53 * base ^ exponent * times / timesOver, the signal is a line in log2(z): its slope, and what is taken off"""
+    """where z is 2^51 * base ^ exponent * times / timesOver, the signal is a line in log2(z): its slope, and what is taken off"""
     two = Decimal(2).ln()
     slope = curve.over / (curve.rise * Decimal(curve.base).ln() / two)
-    start = slope * (53 + (Decimal(curve.times) / curve.times_over).ln() / two) - Decimal(curve.minus - curve.plus) / curve.rise
+    start = slope * (51 + (Decimal(curve.times) / curve.times_over).ln() / two) - Decimal(curve.minus - curve.plus) / curve.rise
     return round(slope * 2 ** 32), round(start * 2 ** 48)
 
 
@@ -167,7 +171,7 @@ def lines():
         "use curves::log_c4::LogC4;\n"
         "use rules::Setting;\n"
         "\n"
-        "// Above the toe a step's number, less the decoder's bias, is a number z over 2^29, and the signal is slope * log2(z) - start. The slope is\n"
+        "// Above the toe a step's number, less the decoder's bias, is a number z over 2^27, and the signal is slope * log2(z) - start. The slope is\n"
         "// in units of 2^-32, the start in units of 2^-48.\n"
         "pub struct LogLine {\n    pub slope: u64,\n    pub start: u64,\n}\n"
         "\n"

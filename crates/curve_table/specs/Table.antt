@@ -22,11 +22,11 @@ forWidth default width (x ∷ xs) = choose (eqb width (x .width)) (x .value) (fo
 
 -- how many entries the first digit has: the last step / 1024 + 1
 abbrev pub firstDigits : (width : ℕ) → ℕ
-firstDigits width = forWidth 0 width (at 10 1 ∷ at 12 4 ∷ at 16 64 ∷ [])
+firstDigits width = forWidth 0 width (at 10 1 ∷ at 12 4 ∷ at 16 64 ∷ at 140 4 ∷ [])
 
 -- the middle digit's entries stand at the scale 2 ^ 63 over this, so that each fits a word; the first digit's entries make up for it
 abbrev pub shiftOf : (width : ℕ) → ℕ
-shiftOf width = forWidth 1 width (at 10 (2 ^ 13) ∷ at 12 (2 ^ 3) ∷ at 16 1 ∷ [])
+shiftOf width = forWidth 1 width (at 10 (2 ^ 13) ∷ at 12 (2 ^ 3) ∷ at 16 1 ∷ at 140 (2 ^ 4) ∷ [])
 
 abbrev pub ratioOf : (width : ℕ) → Seed → ℕ
 ratioOf width s = forWidth 0 width (s .ratios)
@@ -49,7 +49,7 @@ fine = 2 ^ 128
 
 abbrev pub tableBy : (c : Curve) (s : Seed) (ratio count shift : ℕ) → List ℕ
 tableBy c s ratio count shift =
-    progression count fine (base c ^ s .front * s .first) (squareDown fine 10 ratio) (4 * (shift * (2 ^ 53 * factor c .plus))) (factor c .over * base c ^ lift)
+    progression count fine (base c ^ s .front * s .first) (squareDown fine 10 ratio) (4 * (shift * (2 ^ 51 * factor c .plus))) (factor c .over * base c ^ lift)
     ++ (zeros (64 - count)
     ++ (progression 32 fine fine (squareDown fine 5 ratio) (2 ^ 63 / shift) 1
     ++ progression 32 fine fine ratio (2 ^ 63) 1))
@@ -58,7 +58,8 @@ abbrev pub tableWith : (c : Curve) (s : Seed) (width : ℕ) → List ℕ
 tableWith c s width = tableBy c s (ratioOf width s) (firstDigits width) (shiftOf width)
 
 unfoldable pub logC4Table : (width : ℕ) → List ℕ
-logC4Table width = forWidth noTable width (at 12 (tableWith logC4 logC4Seed 12) ∷ at 16 (tableWith logC4 logC4Seed 16) ∷ [])
+logC4Table width =
+    forWidth noTable width (at 12 (tableWith logC4 logC4Seed 12) ∷ at 16 (tableWith logC4 logC4Seed 16) ∷ at 140 (tableWith logC4 logC4Seed 140) ∷ [])
 
 -- of a row of constants and the seed of the same row
 abbrev pub tableIn : (width row : ℕ) → List Row → List Seed → List ℕ

@@ -78,6 +78,7 @@ fn logc4(width: u8) -> [u64; 128]
     match width {
         12 => values::LOGC4_W12,
         16 => values::LOGC4_W16,
+        140 => values::LOGC4_W140,
         _ => NONE,
     }
 }

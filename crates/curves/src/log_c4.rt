@@ -22,8 +22,8 @@ pub struct LogC4 {
 impl LogC4 {
     pub const NUMBER: u8 = 4;
 
-    // "Curve 4 has widths 12 and 16"
-    pub const WIDTHS: [u8; 2] = [12, 16];
+    // "Curve 4 has widths 12 and 16", and 140 for the legal range
+    pub const WIDTHS: [u8; 3] = [12, 16, 140];
 
     // ".. and EI 0, since it doesn't depend on EI"
     pub const EI: u16 = 0;

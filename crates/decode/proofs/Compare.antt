@@ -76,7 +76,7 @@ module _ {k : Scale} {g : ℕ} {t : List ℕ} {s : Source} (ok : Tested k g t s)
   times-pos : 0 < times k
   times-pos = part (times k) (ok .unit-pos)
     where
-      part : (T : ℕ) → 0 < 2 ^ 53 * T → 0 < T
+      part : (T : ℕ) → 0 < 2 ^ 51 * T → 0 < T
       part T h = omega arith
 
   -- the factors by which the tests' scale differs from the rules'

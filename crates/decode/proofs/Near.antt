@@ -47,10 +47,10 @@ high-enough D N κ u v i w Y Z o h t =
     cut-gt ((D * u + N) * κ + Y) (D * o * κ + Z) (D * κ * (v + 5)) w (omega (arith, ltb→lt, mul-le-mul-left (D * κ) h))
 
 -- what the tests say at the scale of the program, as the powers want it
-scaled-low : (X B T H M D v : ℕ) → 0 < B * T → X * 2 ^ 29 < D * (H * M) * v → X * B * (2 ^ 53 * T) < H * B * v * (D * 2 ^ 24 * T * M)
+scaled-low : (X B T H M D v : ℕ) → 0 < B * T → X * 2 ^ 27 < D * (H * M) * v → X * B * (2 ^ 51 * T) < H * B * v * (D * 2 ^ 24 * T * M)
 scaled-low X B T H M D v p h = omega (arith, mul-lt-mul-of-pos-right {k = B * T} h p)
 
-scaled-high : (X B T H M D v : ℕ) → 0 < B * T → D * (H * M) * v < X * 2 ^ 29 → H * B * v * (D * 2 ^ 24 * T * M) < X * B * (2 ^ 53 * T)
+scaled-high : (X B T H M D v : ℕ) → 0 < B * T → D * (H * M) * v < X * 2 ^ 27 → H * B * v * (D * 2 ^ 24 * T * M) < X * B * (2 ^ 51 * T)
 scaled-high X B T H M D v p h = omega (arith, mul-lt-mul-of-pos-right {k = B * T} h p)
 
 -- the number less N / D, and with it, as the tests and as the rules write them: u is y with the offset
@@ -66,11 +66,11 @@ with-bound N D y u e = simp tidy (omega (arith, ap (λ (w : ℕ). w * (D * D * 2
 -- which the power is
 pub record Room (k : Scale) (t : List ℕ) (n N D : ℕ) : Type 0 where
   pub low :
-      (D * powerRaw (decoderOf k) t n * kappa k + D * 2 ^ 24 * plus-less k - ((D * offset + N) * kappa k + D * 2 ^ 24 * minus-less k)) * 2 ^ 29
+      (D * powerRaw (decoderOf k) t n * kappa k + D * 2 ^ 24 * plus-less k - ((D * offset + N) * kappa k + D * 2 ^ 24 * minus-less k)) * 2 ^ 27
       < D * kappa k * product t n
   pub high :
       D * kappa k * (product t n + 5)
-      < ((D * powerRaw (decoderOf k) t n + N) * kappa k + D * 2 ^ 24 * plus-less k - (D * offset * kappa k + D * 2 ^ 24 * minus-less k)) * 2 ^ 29
+      < ((D * powerRaw (decoderOf k) t n + N) * kappa k + D * 2 ^ 24 * plus-less k - (D * offset * kappa k + D * 2 ^ 24 * minus-less k)) * 2 ^ 27
 
 module _ {k : Scale} {g : ℕ} {t : List ℕ} {s : Source} (ok : Tested k g t s) (n : ℕ) (from : first k ≤ n) (to : n ≤ k .last) where
   -- the number, with the offset
@@ -78,21 +78,21 @@ module _ {k : Scale} {g : ℕ} {t : List ℕ} {s : Source} (ok : Tested k g t s)
   u = powerRaw (decoderOf k) t n
 
   -- room where the product with two biases, i below and j above, is rounded down to the number
-  pub room-by : (N D : ℕ) → 0 < D → (i j : ℕ) → u * 2 ^ 29 ≤ product t n + i → product t n + j < u * 2 ^ 29 + 2 ^ 29
+  pub room-by : (N D : ℕ) → 0 < D → (i j : ℕ) → u * 2 ^ 27 ≤ product t n + i → product t n + j < u * 2 ^ 27 + 2 ^ 27
       → T (every (roomTests k N D i j)) → Room k t n N D
   unfolding nth
   room-by N D pD i j below above r =
       record {
         low =
-            low-enough D N (kappa k) u (product t n) i (2 ^ 29) (D * 2 ^ 24 * plus-less k) (D * 2 ^ 24 * minus-less k) offset
+            low-enough D N (kappa k) u (product t n) i (2 ^ 27) (D * 2 ^ 24 * plus-less k) (D * 2 ^ 24 * minus-less k) offset
             (mul-pos (mul-pos pD (ok .kappa-pos)) (product-positive ok n from to)) below (passes (roomTests k N D i j) r 0);
-        high = high-enough D N (kappa k) u (product t n) j (2 ^ 29) (D * 2 ^ 24 * plus-less k) (D * 2 ^ 24 * minus-less k) offset above (passes (roomTests k N D i j) r 1);
+        high = high-enough D N (kappa k) u (product t n) j (2 ^ 27) (D * 2 ^ 24 * plus-less k) (D * 2 ^ 24 * minus-less k) offset above (passes (roomTests k N D i j) r 1);
       }
 
   -- for the rules' tolerance, by the tests
   pub room : Room k t n (tolerance .plus) (tolerance .over)
   room =
-      room-by (tolerance .plus) (tolerance .over) (lit< tt) (bias k) (bias k) (div-mul-le-self (product t n + bias k) (2 ^ 29)) (lt-div-mul-add {a = product t n + bias k} {b = 2 ^ 29} (lit< tt))
+      room-by (tolerance .plus) (tolerance .over) (lit< tt) (bias k) (bias k) (div-mul-le-self (product t n + bias k) (2 ^ 27)) (lt-div-mul-add {a = product t n + bias k} {b = 2 ^ 27} (lit< tt))
       (ok .has-room)
 
   exponent-at : begin k + n * by k ≡ exponentAt k n 1 .plus + (lift * q k - exponentAt k n 1 .minus)
@@ -103,7 +103,7 @@ module _ {k : Scale} {g : ℕ} {t : List ℕ} {s : Source} (ok : Tested k g t s)
     abbrev value : Fraction
     value = record { plus = p; minus = m; over = D * 2 ^ 24 }
 
-    below-power : (p * kappa k + D * 2 ^ 24 * plus-less k - (m * kappa k + D * 2 ^ 24 * minus-less k)) * 2 ^ 29 < D * kappa k * product t n
+    below-power : (p * kappa k + D * 2 ^ 24 * plus-less k - (m * kappa k + D * 2 ^ 24 * minus-less k)) * 2 ^ 27 < D * kappa k * product t n
         → VersusPower Less (powerFor (k .curve) y) (base (k .curve)) (exponent (k .curve) (signal k (whole n)))
     below-power h =
         by-rules ok n 1 (lit< tt) less value y (mul-pos pD (lit< tt)) py e
@@ -111,7 +111,7 @@ module _ {k : Scale} {g : ℕ} {t : List ℕ} {s : Source} (ok : Tested k g t s)
         (scaled-low (wanted k value) (b k ^ lift) (times k) (factor (k .curve) .over) (curve.less (k .curve) .over) D (product t n) (lift-pos ok) (rw (wanted-is k value) h))
         (subst (λ (i : ℕ). Below (b k) (q k) i (entry k * product t n) (unit k)) exponent-at (law ok n to .lower)))
 
-    above-power : D * kappa k * (product t n + 5) < (p * kappa k + D * 2 ^ 24 * plus-less k - (m * kappa k + D * 2 ^ 24 * minus-less k)) * 2 ^ 29
+    above-power : D * kappa k * (product t n + 5) < (p * kappa k + D * 2 ^ 24 * plus-less k - (m * kappa k + D * 2 ^ 24 * minus-less k)) * 2 ^ 27
         → VersusPower Greater (powerFor (k .curve) y) (base (k .curve)) (exponent (k .curve) (signal k (whole n)))
     above-power h =
         by-rules ok n 1 (lit< tt) (flip less) value y (mul-pos pD (lit< tt)) py e

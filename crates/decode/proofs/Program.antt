@@ -37,23 +37,23 @@ module _ (k : Constants) (p : 0 < k .a) where
   over-is : lessUnits (logC k) .over ≡ 1000000 * k .a
   over-is = simp tidy (omega arith)
 
-  less-above : lessUnits (logC k) .plus / lessUnits (logC k) .over ≡ 2 ^ 53 * up (k .b) / k .a
-  less-above = ap₂ (λ (x y : ℕ). x / y) part over-is ∙ scaled-quotient 1000000 (2 ^ 53 * up (k .b)) (k .a) (lit< tt) p
+  less-above : lessUnits (logC k) .plus / lessUnits (logC k) .over ≡ 2 ^ 51 * up (k .b) / k .a
+  less-above = ap₂ (λ (x y : ℕ). x / y) part over-is ∙ scaled-quotient 1000000 (2 ^ 51 * up (k .b)) (k .a) (lit< tt) p
     where
-      part : lessUnits (logC k) .plus ≡ 1000000 * (2 ^ 53 * up (k .b))
+      part : lessUnits (logC k) .plus ≡ 1000000 * (2 ^ 51 * up (k .b))
       part = simp tidy (omega arith)
 
-  less-below : lessUnits (logC k) .minus / lessUnits (logC k) .over ≡ 2 ^ 53 * dn (k .b) / k .a
-  less-below = ap₂ (λ (x y : ℕ). x / y) part over-is ∙ scaled-quotient 1000000 (2 ^ 53 * dn (k .b)) (k .a) (lit< tt) p
+  less-below : lessUnits (logC k) .minus / lessUnits (logC k) .over ≡ 2 ^ 51 * dn (k .b) / k .a
+  less-below = ap₂ (λ (x y : ℕ). x / y) part over-is ∙ scaled-quotient 1000000 (2 ^ 51 * dn (k .b)) (k .a) (lit< tt) p
     where
-      part : lessUnits (logC k) .minus ≡ 1000000 * (2 ^ 53 * dn (k .b))
+      part : lessUnits (logC k) .minus ≡ 1000000 * (2 ^ 51 * dn (k .b))
       part = simp tidy (omega arith)
 
-  bias-is : 2097153 * 2 ^ 28 + 2 ^ 53 * dn (k .b) / k .a - 2 ^ 53 * up (k .b) / k .a ≡ biasOf (logC k)
-  bias-is = ap₂ (λ (x y : ℕ). 2097153 * 2 ^ 28 + x - y) (sym less-below) (sym less-above)
+  bias-is : 2097153 * 2 ^ 26 + 2 ^ 51 * dn (k .b) / k .a - 2 ^ 51 * up (k .b) / k .a ≡ biasOf (logC k)
+  bias-is = ap₂ (λ (x y : ℕ). 2097153 * 2 ^ 26 + x - y) (sym less-below) (sym less-above)
 
 pub decoder-is : (k : Constants) → 0 < k .a → (last first bias toe over : ℕ) → first ≡ firstOf (logC k) last
-    → bias ≡ 2097153 * 2 ^ 28 + 2 ^ 53 * dn (k .b) / k .a - 2 ^ 53 * up (k .b) / k .a → toe ≡ toeOf (logC k) last → over ≡ overOf (logC k) last
+    → bias ≡ 2097153 * 2 ^ 26 + 2 ^ 51 * dn (k .b) / k .a - 2 ^ 51 * up (k .b) / k .a → toe ≡ toeOf (logC k) last → over ≡ overOf (logC k) last
     → _≡_ {A = Decoder} (record { first = first; bias = bias; toe = toe; over = over }) (decoderOf (record { curve = logC k; last = last }))
 decoder-is k p last first bias toe over f b t o = cc (bias-is k p)
 
@@ -62,7 +62,7 @@ pub numbers-are : (k : LogC4) → IsLogC4 k → (k .less ≡ 64) × (k .times �
 numbers-are k i =
     (ap (λ (x : Fraction). x .plus) (sym (i .less-is)), ap (λ (x : Fraction). x .plus) (sym (i .factor-is)), ap (λ (x : Fraction). x .over) (sym (i .factor-is)))
 
-pub decoder-is-4 : (less times over bias : ℕ) → less ≡ 64 → times ≡ 783 → over ≡ 1747520 → bias ≡ 2097153 * 2 ^ 28 + 2 ^ 53 * 0 / over - 2 ^ 53 * (less * times) / over
+pub decoder-is-4 : (less times over bias : ℕ) → less ≡ 64 → times ≡ 783 → over ≡ 1747520 → bias ≡ 2097153 * 2 ^ 26 + 2 ^ 51 * 0 / over - 2 ^ 51 * (less * times) / over
     → _≡_ {A = Decoder} (record { first = 0; bias = bias; toe = 0; over = 0 }) (decoderOf (record { curve = logC4; last = 0 }))
 decoder-is-4 less times over bias l t o e = rw (e, l, t, o)
 
@@ -130,7 +130,7 @@ pub raw-small : {d : Decoder} {t : List ℕ} {n : ℕ} → Fits d t n → rawBy 
 unfolding rawBy
 raw-small {d} {t} {n} f = go (ltb n (d .first))
   where
-    power : (x : ℕ) → x < 2 ^ 64 → x / 2 ^ 29 < 2 ^ 62
+    power : (x : ℕ) → x < 2 ^ 64 → x / 2 ^ 27 < 2 ^ 62
     power x h = omega arith
 
     go : (x : Bool) → choose x (toeRaw d n) (powerRaw d t n) < 2 ^ 62

@@ -17,11 +17,11 @@ module _ (part over : ℕ) (p : 0 < over) (h : 16 * part ≤ over) where
   pub high-small : 2 ^ 40 * part / over ≤ 2 ^ 36
   high-small = let l : 2 ^ 40 * part / over < 2 ^ 36 + 1 = div-lt-iff-lt-mul p .1 (omega arith) in omega arith
 
-  pub quotient-small : 2 ^ 53 * part / over ≤ 2 ^ 49
-  quotient-small = let l : 2 ^ 53 * part / over < 2 ^ 49 + 1 = div-lt-iff-lt-mul p .1 (omega arith) in omega arith
+  pub quotient-small : 2 ^ 51 * part / over ≤ 2 ^ 47
+  quotient-small = let l : 2 ^ 51 * part / over < 2 ^ 47 + 1 = div-lt-iff-lt-mul p .1 (omega arith) in omega arith
 
 -- the second step's number
-pub rest-small : (x over : ℕ) → 0 < over → over < 2 ^ 29 → x % over * 8192 < 2 ^ 42
+pub rest-small : (x over : ℕ) → 0 < over → over < 2 ^ 29 → x % over * 2048 < 2 ^ 40
 rest-small x over p h = omega (arith, mod-lt x p)
 
 -- a factor of both

@@ -49,8 +49,8 @@ rise g v v′ i w p h = le-of-suc-le-suc (lt-of-mul-lt-mul-right w (omega (arith
 pub power-step : {k : Scale} {g : ℕ} {t : List ℕ} {s : Source} → Tested k g t s → (n : ℕ) → first k ≤ n → n < k .last
     → powerRaw (decoderOf k) t n + g ≤ powerRaw (decoderOf k) t (n + 1)
 power-step {k} {g} {t} {s} ok n f h =
-    rise g (product t n) (product t (n + 1)) (bias k) (2 ^ 29) (lit< tt)
-    (step (product t n) (product t (n + 1)) (s .ratio - fine) (s .ratio) fine (g * 2 ^ 29) (product t (first k)) (lit< tt) (sym (add-sub-of-le (ok .ratio-above-one)))
+    rise g (product t n) (product t (n + 1)) (bias k) (2 ^ 27) (lit< tt)
+    (step (product t n) (product t (n + 1)) (s .ratio - fine) (s .ratio) fine (g * 2 ^ 27) (product t (first k)) (lit< tt) (sym (add-sub-of-le (ok .ratio-above-one)))
     (next-low ok n h)
     (no-less ok (first k) n f (le-of-lt h))
     (ok .steps))

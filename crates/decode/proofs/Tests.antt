@@ -82,7 +82,7 @@ module _ (k : Scale) where
   entry = factor (k .curve) .over * b ^ lift
 
   abbrev pub unit : ℕ
-  unit = 2 ^ 53 * times
+  unit = 2 ^ 51 * times
 
   -- the first step of the power part
   abbrev pub first : ℕ
@@ -94,8 +94,8 @@ module _ (k : Scale) where
   -- room for a tolerance N / D, where the product with two biases, i below and j above, is rounded down to the number
   abbrev pub roomTests : (N D i j : ℕ) → List Bool
   roomTests N D i j =
-      ltb (D * kappa * i + D * 2 ^ 24 * plus-less * 2 ^ 29) (kappa * (D * offset + N) * 2 ^ 29 + D * 2 ^ 24 * minus-less * 2 ^ 29)
-      ∷ ltb (D * kappa * 2 ^ 29 + 4 * (D * kappa) + D * offset * kappa * 2 ^ 29 + D * 2 ^ 24 * minus-less * 2 ^ 29) (N * kappa * 2 ^ 29 + D * 2 ^ 24 * plus-less * 2 ^ 29 + D * kappa * j)
+      ltb (D * kappa * i + D * 2 ^ 24 * plus-less * 2 ^ 27) (kappa * (D * offset + N) * 2 ^ 27 + D * 2 ^ 24 * minus-less * 2 ^ 27)
+      ∷ ltb (D * kappa * 2 ^ 27 + 4 * (D * kappa) + D * offset * kappa * 2 ^ 27 + D * 2 ^ 24 * minus-less * 2 ^ 27) (N * kappa * 2 ^ 27 + D * 2 ^ 24 * plus-less * 2 ^ 27 + D * kappa * j)
       ∷ []
 
   -- how many entries the first digit has
@@ -163,7 +163,7 @@ tests k g t s =
     ∷ ltb 0 (entry k * unit k)
     ∷ leb (exponentAt k 0 1 .minus) (lift * q k)
     ∷ leb fine (s .ratio)
-    ∷ leb ((g * 2 ^ 29 + 5) * fine + 5 * (s .ratio - fine)) (product t (first k) * (s .ratio - fine))
+    ∷ leb ((g * 2 ^ 27 + 5) * fine + 5 * (s .ratio - fine)) (product t (first k) * (s .ratio - fine))
     ∷ ltb 5 (product t (first k))
     ∷ every (roomTests k (tolerance .plus) (tolerance .over) (bias k) (bias k))
     ∷ ltb 0 (kappa k)
@@ -196,7 +196,7 @@ pub record Tested (k : Scale) (g : ℕ) (t : List ℕ) (s : Source) : Type 0 whe
   pub lifted : exponentAt k 0 1 .minus ≤ lift * q k
   -- the numbers rise, and have room for the tolerance
   pub ratio-above-one : fine ≤ s .ratio
-  pub steps : (g * 2 ^ 29 + 5) * fine + 5 * (s .ratio - fine) ≤ product t (first k) * (s .ratio - fine)
+  pub steps : (g * 2 ^ 27 + 5) * fine + 5 * (s .ratio - fine) ≤ product t (first k) * (s .ratio - fine)
   pub least-large : 5 < product t (first k)
   pub has-room : T (every (roomTests k (tolerance .plus) (tolerance .over) (bias k) (bias k)))
   pub kappa-pos : 0 < kappa k

@@ -21,7 +21,7 @@ offset = 2 ^ 20
 
 -- ---- with a decoder d and a table t
 
--- the power of the step i, times the curve's factor, at 2 ^ 29 a unit: the product of the entries of its three digits
+-- the power of the step i, times the curve's factor, at 2 ^ 27 a unit: the product of the entries of its three digits
 abbrev pub product : List ℕ → ℕ → ℕ
 product t i = getD t (i / 1024) 0 * getD t (64 + i / 32 % 32) 0 / 2 ^ 64 * getD t (96 + i % 32) 0 / 2 ^ 64
 
@@ -29,7 +29,7 @@ abbrev pub toeRaw : Decoder → ℕ → ℕ
 toeRaw d i = (2 ^ 25 * 1000000 * i + d .toe) / d .over
 
 abbrev pub powerRaw : Decoder → List ℕ → ℕ → ℕ
-powerRaw d t i = (product t i + d .bias) / 2 ^ 29
+powerRaw d t i = (product t i + d .bias) / 2 ^ 27
 
 unfoldable pub rawBy : Decoder → List ℕ → ℕ → ℕ
 rawBy d t i = choose (ltb i (d .first)) (toeRaw d i) (powerRaw d t i)
@@ -51,13 +51,13 @@ abbrev pub firstOf : Curve → (last : ℕ) → ℕ
 firstOf logC4 last = 0
 firstOf (logC k) last = ((k .e * k .cut + 1000000 * up (k .f)) * last - 1000000 * dn (k .f) * last) / 10 ^ 12 + 1
 
--- what the power is less, times the factor, at 2 ^ 29 a unit
+-- what the power is less, times the factor, at 2 ^ 27 a unit
 abbrev pub lessUnits : Curve → Fraction
-lessUnits c = less c *ℚ factor c *ℚ whole (2 ^ 53)
+lessUnits c = less c *ℚ factor c *ℚ whole (2 ^ 51)
 
--- 2 ^ 29 * (offset + 1/2 - less * factor * 2 ^ 24)
+-- 2 ^ 27 * (offset + 1/2 - less * factor * 2 ^ 24)
 abbrev pub biasOf : Curve → ℕ
-biasOf c = (2 * offset + 1) * 2 ^ 28 + lessUnits c .minus / lessUnits c .over - lessUnits c .plus / lessUnits c .over
+biasOf c = (2 * offset + 1) * 2 ^ 26 + lessUnits c .minus / lessUnits c .over - lessUnits c .plus / lessUnits c .over
 
 -- in the toe the signal i / last goes to (2 ^ 25 * 10 ^ 6 * i + toeOf) / overOf: the exact value times 2 ^ 24, and offset + 1/2
 abbrev pub toeOf : Curve → (last : ℕ) → ℕ

@@ -23,8 +23,8 @@ const OFFSET: i64 = 1 << 20;
 
 const HALVES: u64 = (1 << 21) + 1;
 
-// A product of table entries stands at 2^29 a unit.
-const UNIT: u64 = 1 << 29;
+// A product of table entries stands at 2^27 a unit.
+const UNIT: u64 = 1 << 27;
 
 // 2^25 * 10^6: twice a unit, in the toe's millionths.
 const TOE_RISE: u64 = (1 << 25) * MILLION;
@@ -58,23 +58,23 @@ fn first_step(cut: u64, e: u64, above: u64, below: u64, last: u64) -> u64
     ((e * cut + MILLION * above) * last - MILLION * below * last) / (MILLION * MILLION) + 1
 }
 
-// 2^53 * part / over, rounded down. 2^53 * part may be more than a word, so it is divided in two
+// 2^51 * part / over, rounded down. 2^51 * part may be more than a word, so it is divided in two
 // steps.
 fn lower(part: u64, over: u64) -> u64
     requires { ⌜ (part < 2 ^ 21) × (16 * part ≤ over) × (0 < over) × (over < 2 ^ 29) ⌝ }
-    ensures { λ r. ⌜ r ≡ 2 ^ 53 * part / over ⌝ }
+    ensures { λ r. ⌜ r ≡ 2 ^ 51 * part / over ⌝ }
 {
     let high = (1 << 40) * part;
-    high / over * 8192 + high % over * 8192 / over
+    high / over * 2048 + high % over * 2048 / over
 }
 
-// (2^20 + 1/2 - (above - below) / over * 2^24) * 2^29, where (above - below) / over is what the power
+// (2^20 + 1/2 - (above - below) / over * 2^24) * 2^27, where (above - below) / over is what the power
 // is less, times the factor.
 fn bias(above: u64, below: u64, over: u64) -> u64
     requires { ⌜ (above < 2 ^ 21) × (16 * above ≤ over) × (below < 2 ^ 21) × (16 * below ≤ over) × (0 < over) × (over < 2 ^ 29) ⌝ }
-    ensures { λ r. ⌜ r ≡ 2097153 * 2 ^ 28 + 2 ^ 53 * below / over - 2 ^ 53 * above / over ⌝ }
+    ensures { λ r. ⌜ r ≡ 2097153 * 2 ^ 26 + 2 ^ 51 * below / over - 2 ^ 51 * above / over ⌝ }
 {
-    HALVES * (1 << 28) + lower(below, over) - lower(above, over)
+    HALVES * (1 << 26) + lower(below, over) - lower(above, over)
 }
 
 // (2^20 + 1/2) * 2 * e * last, less 2^25 * f * last, where f is above - below.

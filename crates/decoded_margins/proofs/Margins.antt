@@ -43,11 +43,11 @@ largest-at f (x ∷ xs) (suc j) g = le-trans (largest-at f xs j (le-of-suc-le-su
 abbrev remainders : (i w z : ℕ) (tops middles lows : List ℕ) → Bool
 remainders i w z tops middles lows = all (λ t. all (λ m. leb (largest (λ l. (t * m / 2 ^ 64 * l + i) % w) lows) z) middles) tops
 
--- with the bias, no product is a multiple of 2 ^ 29, nor less than 6 below one. The numbers stand at 2 ^ 93 a unit, so that a step takes one
+-- with the bias, no product is a multiple of 2 ^ 27, nor less than 6 below one. The numbers stand at 2 ^ 91 a unit, so that a step takes one
 -- product, one sum and one remainder.
 abbrev clear : (k : Scale) (t : List ℕ) → Bool
 clear k t =
-    remainders ((bias k + (2 ^ 29 - 1)) * 2 ^ 64) (2 ^ 93) ((2 ^ 29 - 7) * 2 ^ 64) (take (count k) t) (take 32 (drop 64 t)) (take 32 (drop 96 t))
+    remainders ((bias k + (2 ^ 27 - 1)) * 2 ^ 64) (2 ^ 91) ((2 ^ 27 - 6) * 2 ^ 64 - 1) (take (count k) t) (take 32 (drop 64 t)) (take 32 (drop 96 t))
 
 -- and the bias itself is rounded by less than 1
 abbrev biasTests : Scale → List Bool
@@ -57,13 +57,13 @@ abbrev pub marginTest : (k : Scale) (t : List ℕ) → Bool
 marginTest k t = both (every (biasTests k)) (clear k t)
 
 -- ---- what the remainder says of the number that is rounded down
-coarse : (x i : ℕ) → (x + (i + (2 ^ 29 - 1)) * 2 ^ 64) % 2 ^ 93 ≤ (2 ^ 29 - 7) * 2 ^ 64 → (x / 2 ^ 64 + i + (2 ^ 29 - 1)) % 2 ^ 29 ≤ 2 ^ 29 - 7
+coarse : (x i : ℕ) → (x + (i + (2 ^ 27 - 1)) * 2 ^ 64) % 2 ^ 91 ≤ (2 ^ 27 - 6) * 2 ^ 64 - 1 → (x / 2 ^ 64 + i + (2 ^ 27 - 1)) % 2 ^ 27 ≤ 2 ^ 27 - 7
 coarse x i h = omega arith
 
-from-below : (v i : ℕ) → (v + i + (2 ^ 29 - 1)) % 2 ^ 29 ≤ 2 ^ 29 - 7 → (v + i) / 2 ^ 29 * 2 ^ 29 ≤ v + (i - 1)
+from-below : (v i : ℕ) → (v + i + (2 ^ 27 - 1)) % 2 ^ 27 ≤ 2 ^ 27 - 7 → (v + i) / 2 ^ 27 * 2 ^ 27 ≤ v + (i - 1)
 from-below v i h = omega arith
 
-from-above : (v i : ℕ) → (v + i + (2 ^ 29 - 1)) % 2 ^ 29 ≤ 2 ^ 29 - 7 → v + (i + 5) < (v + i) / 2 ^ 29 * 2 ^ 29 + 2 ^ 29
+from-above : (v i : ℕ) → (v + i + (2 ^ 27 - 1)) % 2 ^ 27 ≤ 2 ^ 27 - 7 → v + (i + 5) < (v + i) / 2 ^ 27 * 2 ^ 27 + 2 ^ 27
 from-above v i h = omega arith
 
 module _ {k : Scale} {g : ℕ} {t : List ℕ} {s : Source} (ok : Tested k g t s) (margin : T (marginTest k t)) (n : ℕ) (from : first k ≤ n) (to : n ≤ k .last) where
@@ -77,10 +77,10 @@ module _ {k : Scale} {g : ℕ} {t : List ℕ} {s : Source} (ok : Tested k g t s)
   lows = take 32 (drop 96 t)
 
   abbrev i : ℕ
-  i = (bias k + (2 ^ 29 - 1)) * 2 ^ 64
+  i = (bias k + (2 ^ 27 - 1)) * 2 ^ 64
 
   abbrev z : ℕ
-  z = (2 ^ 29 - 7) * 2 ^ 64
+  z = (2 ^ 27 - 6) * 2 ^ 64 - 1
 
   quotient : n / 1024 < count k
   quotient = less (k .last) to
@@ -104,15 +104,15 @@ module _ {k : Scale} {g : ℕ} {t : List ℕ} {s : Source} (ok : Tested k g t s)
   abbrev h : ℕ
   h = getD tops (n / 1024) 0 * getD middles (n / 32 % 32) 0 / 2 ^ 64
 
-  at-upper : T (leb (largest (λ l. (h * l + i) % 2 ^ 93) lows) z)
+  at-upper : T (leb (largest (λ l. (h * l + i) % 2 ^ 91) lows) z)
   at-upper =
-      all-at (λ m. leb (largest (λ l. (getD tops (n / 1024) 0 * m / 2 ^ 64 * l + i) % 2 ^ 93) lows) z) middles
-      (all-at (λ x. all (λ m. leb (largest (λ l. (x * m / 2 ^ 64 * l + i) % 2 ^ 93) lows) z) middles) tops (both-right (every (biasTests k)) (clear k t) margin) (n / 1024) tops-long)
+      all-at (λ m. leb (largest (λ l. (getD tops (n / 1024) 0 * m / 2 ^ 64 * l + i) % 2 ^ 91) lows) z) middles
+      (all-at (λ x. all (λ m. leb (largest (λ l. (x * m / 2 ^ 64 * l + i) % 2 ^ 91) lows) z) middles) tops (both-right (every (biasTests k)) (clear k t) margin) (n / 1024) tops-long)
       (n / 32 % 32)
       middles-long
 
-  at-digits : (h * getD lows (n % 32) 0 + i) % 2 ^ 93 ≤ z
-  at-digits = le-trans (largest-at (λ l. (h * l + i) % 2 ^ 93) lows (n % 32) lows-long) (leb→le (largest (λ l. (h * l + i) % 2 ^ 93) lows) z at-upper)
+  at-digits : (h * getD lows (n % 32) 0 + i) % 2 ^ 91 ≤ z
+  at-digits = le-trans (largest-at (λ l. (h * l + i) % 2 ^ 91) lows (n % 32) lows-long) (leb→le (largest (λ l. (h * l + i) % 2 ^ 91) lows) z at-upper)
 
   top-entry : getD tops (n / 1024) 0 ≡ getD t (n / 1024) 0
   top-entry = getD-take (count k) t (n / 1024) 0 quotient
@@ -123,12 +123,12 @@ module _ {k : Scale} {g : ℕ} {t : List ℕ} {s : Source} (ok : Tested k g t s)
   low-entry : getD lows (n % 32) 0 ≡ getD t (96 + n % 32) 0
   low-entry = getD-take 32 (drop 96 t) (n % 32) 0 (below-32 n) ∙ getD-drop 96 t (n % 32) 0
 
-  at-step : (product t n + bias k + (2 ^ 29 - 1)) % 2 ^ 29 ≤ 2 ^ 29 - 7
+  at-step : (product t n + bias k + (2 ^ 27 - 1)) % 2 ^ 27 ≤ 2 ^ 27 - 7
   at-step =
       coarse (getD t (n / 1024) 0 * getD t (64 + n / 32 % 32) 0 / 2 ^ 64 * getD t (96 + n % 32) 0) (bias k)
-      (subst (λ (l : ℕ). (getD t (n / 1024) 0 * getD t (64 + n / 32 % 32) 0 / 2 ^ 64 * l + i) % 2 ^ 93 ≤ z) low-entry
-      (subst (λ (m : ℕ). (getD t (n / 1024) 0 * m / 2 ^ 64 * getD lows (n % 32) 0 + i) % 2 ^ 93 ≤ z) middle-entry
-      (subst (λ (x : ℕ). (x * getD middles (n / 32 % 32) 0 / 2 ^ 64 * getD lows (n % 32) 0 + i) % 2 ^ 93 ≤ z) top-entry at-digits)))
+      (subst (λ (l : ℕ). (getD t (n / 1024) 0 * getD t (64 + n / 32 % 32) 0 / 2 ^ 64 * l + i) % 2 ^ 91 ≤ z) low-entry
+      (subst (λ (m : ℕ). (getD t (n / 1024) 0 * m / 2 ^ 64 * getD lows (n % 32) 0 + i) % 2 ^ 91 ≤ z) middle-entry
+      (subst (λ (x : ℕ). (x * getD middles (n / 32 % 32) 0 / 2 ^ 64 * getD lows (n % 32) 0 + i) % 2 ^ 91 ≤ z) top-entry at-digits)))
 
   biased : T (every (biasTests k))
   biased = both-left (every (biasTests k)) (clear k t) margin

@@ -30,7 +30,7 @@ twoThirds s = third s * third s / fine
 
 -- a unit, at the scale of a product and of the seeds
 abbrev pub wide : ℕ
-wide = 2 ^ 29 * fine
+wide = 2 ^ 27 * fine
 
 module _ (k : Scale) where
   -- what a comparison with the power part has besides: the curve's less, and the offset
@@ -121,7 +121,7 @@ thirdTests k t s =
     ∷ leb (fine + (s .ratio + slack)) (2 * twoThirds s)
     ∷ leb (2 * (third s + slack)) (fine + s .ratio)
     ∷ leb (5 * kappa k * (s .ratio + slack) + 2 * kappa k * bias k * fine + added k + 5 * kappa k * spare-up s) (kappa k * product t (first k) * spare-up s + taken k)
-    ∷ leb (10 * kappa k * (third s + slack) + 5 * kappa k * spare-down s + 5 * kappa k * fine + 2 * kappa k * 2 ^ 29 * fine + taken k) (kappa k * product t (first k) * spare-down s + 2 * kappa k * bias k * fine + added k)
+    ∷ leb (10 * kappa k * (third s + slack) + 5 * kappa k * spare-down s + 5 * kappa k * fine + 2 * kappa k * 2 ^ 27 * fine + taken k) (kappa k * product t (first k) * spare-down s + 2 * kappa k * bias k * fine + added k)
     ∷ every (borderTests (k .curve) (k .last) t s)
     ∷ []
 
@@ -132,7 +132,7 @@ pub record Thirds (k : Scale) (t : List ℕ) (s : Source) : Type 0 where
   pub apart-down : 2 * (third s + slack) ≤ fine + s .ratio
   pub room-up : 5 * kappa k * (s .ratio + slack) + 2 * kappa k * bias k * fine + added k + 5 * kappa k * spare-up s ≤ kappa k * product t (first k) * spare-up s + taken k
   pub room-down :
-      10 * kappa k * (third s + slack) + 5 * kappa k * spare-down s + 5 * kappa k * fine + 2 * kappa k * 2 ^ 29 * fine + taken k
+      10 * kappa k * (third s + slack) + 5 * kappa k * spare-down s + 5 * kappa k * fine + 2 * kappa k * 2 ^ 27 * fine + taken k
       ≤ kappa k * product t (first k) * spare-down s + 2 * kappa k * bias k * fine + added k
   pub border : HasBorder (k .curve) (k .last) t s
 

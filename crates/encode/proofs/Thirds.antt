@@ -39,10 +39,10 @@ same-units : (x : ℤ) → Versus (λ i j. i ≡ j) (units x) (integer x *ℚ de
 same-units x = simp tidy (omega arith)
 
 -- what the tests say at the scale of the program, as the powers want it
-scaled-le : (X B T H M S N : ℕ) → X * (2 ^ 29 * S) ≤ H * M * N → X * B * (2 ^ 53 * T * S) ≤ H * B * N * (2 ^ 24 * T * M)
+scaled-le : (X B T H M S N : ℕ) → X * (2 ^ 27 * S) ≤ H * M * N → X * B * (2 ^ 51 * T * S) ≤ H * B * N * (2 ^ 24 * T * M)
 scaled-le X B T H M S N h = omega (arith, mul-le-mul-right (B * T * 2 ^ 24) h)
 
-scaled-ge : (X B T H M S N : ℕ) → H * M * N ≤ X * (2 ^ 29 * S) → H * B * N * (2 ^ 24 * T * M) ≤ X * B * (2 ^ 53 * T * S)
+scaled-ge : (X B T H M S N : ℕ) → H * M * N ≤ X * (2 ^ 27 * S) → H * B * N * (2 ^ 24 * T * M) ≤ X * B * (2 ^ 51 * T * S)
 scaled-ge X B T H M S N h = omega (arith, mul-le-mul-right (B * T * 2 ^ 24) h)
 
 at-most-power : {b q m x s : ℕ} → Below b q m x s → x ^ q ≤ b ^ m * s ^ q
@@ -150,11 +150,11 @@ module _ {k : Scale} {g : ℕ} {t : List ℕ} {s : Source} (ok : Tested k g t s)
   abbrev u : ℕ → ℕ
   u n = rawBy (decoderOf k) t n
 
-  product-low : (n : ℕ) → first k ≤ n → u n * 2 ^ 29 ≤ product t n + bias k
-  product-low n h = rw (raw-power (decoderOf k) t n h) (div-mul-le-self (product t n + bias k) (2 ^ 29))
+  product-low : (n : ℕ) → first k ≤ n → u n * 2 ^ 27 ≤ product t n + bias k
+  product-low n h = rw (raw-power (decoderOf k) t n h) (div-mul-le-self (product t n + bias k) (2 ^ 27))
 
-  product-high : (n : ℕ) → first k ≤ n → product t n + bias k < u n * 2 ^ 29 + 2 ^ 29
-  product-high n h = rw (raw-power (decoderOf k) t n h) (lt-div-mul-add {a = product t n + bias k} {b = 2 ^ 29} (lit< tt))
+  product-high : (n : ℕ) → first k ≤ n → product t n + bias k < u n * 2 ^ 27 + 2 ^ 27
+  product-high n h = rw (raw-power (decoderOf k) t n h) (lt-div-mul-add {a = product t n + bias k} {b = 2 ^ 27} (lit< tt))
 
   further : (n : ℕ) → first k ≤ n → first k ≤ n + 1
   further n h = more (first k) h
@@ -165,7 +165,7 @@ module _ {k : Scale} {g : ℕ} {t : List ℕ} {s : Source} (ok : Tested k g t s)
   powers-under : (n : ℕ) → first k ≤ n → n < k .last → T (underProduct k (u n + u (n + 1)) (product t n * twoThirds s))
   powers-under n g h =
       le→leb _ _
-      (power-le (kappa k) (2 ^ 29) fine (added k) (taken k) (bias k) (product t n) (product t (n + 1)) (s .ratio + slack) (twoThirds s) (spare-up s) (product t (first k)) (u n) (u (n + 1))
+      (power-le (kappa k) (2 ^ 27) fine (added k) (taken k) (bias k) (product t n) (product t (n + 1)) (s .ratio + slack) (twoThirds s) (spare-up s) (product t (first k)) (u n) (u (n + 1))
       (product-low n g) (product-low (n + 1) (further n g)) (law.next-high ok n h) (law.no-less ok (first k) n g (le-of-lt h))
       (split (2 * twoThirds s) (fine + (s .ratio + slack)) (thirds .apart-up))
       (thirds .room-up))
@@ -173,7 +173,7 @@ module _ {k : Scale} {g : ℕ} {t : List ℕ} {s : Source} (ok : Tested k g t s)
   powers-over : (n : ℕ) → first k ≤ n → n < k .last → T (overProduct k (u n + u (n + 1)) ((product t n + 5) * (third s + slack)))
   powers-over n g h =
       le→leb _ _
-      (power-ge (kappa k) (2 ^ 29) fine (added k) (taken k) (bias k) (product t n) (product t (n + 1)) (s .ratio) (third s + slack) (spare-down s) (product t (first k)) (u n) (u (n + 1))
+      (power-ge (kappa k) (2 ^ 27) fine (added k) (taken k) (bias k) (product t n) (product t (n + 1)) (s .ratio) (third s + slack) (spare-down s) (product t (first k)) (u n) (u (n + 1))
       (product-high n g) (product-high (n + 1) (further n g)) (law.next-low ok n h) (law.no-less ok (first k) n g (le-of-lt h))
       (split (fine + s .ratio) (2 * (third s + slack)) (thirds .apart-down))
       (thirds .room-down))

@@ -16,8 +16,8 @@ const LIMIT: u64 = 1 << 33;
 
 const OVER_LIMIT: u64 = 1 << 42;
 
-// A product of table entries stands at 2^29 a unit.
-const UNIT: u64 = 1 << 29;
+// A product of table entries stands at 2^27 a unit.
+const UNIT: u64 = 1 << 27;
 
 // A line's signals are in units of 2^-48 before they are cut to 2^-32.
 const SIGNAL: u64 = 1 << 32;
@@ -69,7 +69,7 @@ fn on_line(k: LogLine, last: u64, z: u64) -> u64
     ((rise - start) / CUT * last + SIGNAL / 2) / SIGNAL
 }
 
-// The step of a number above the toe: a step's number is z and the bias, over 2^29 and rounded down.
+// The step of a number above the toe: a step's number is z and the bias, over 2^27 and rounded down.
 fn above_toe(k: LogLine, d: Decoder, last: u64, y: u64) -> u64
     requires { ⌜ (k .slope < 2 ^ 29) × (last < 2 ^ 16) × (y < 2 ^ 33) ⌝ }
 {

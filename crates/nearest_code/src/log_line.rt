@@ -4,7 +4,7 @@ use curves::log_c3::LogC3;
 use curves::log_c4::LogC4;
 use rules::Setting;
 
-// Above the toe a step's number, less the decoder's bias, is a number z over 2^29, and the signal is slope * log2(z) - start. The slope is
+// Above the toe a step's number, less the decoder's bias, is a number z over 2^27, and the signal is slope * log2(z) - start. The slope is
 // in units of 2^-32, the start in units of 2^-48.
 pub struct LogLine {
     pub slope: u64,
@@ -14,62 +14,62 @@ pub struct LogLine {
 impl LogLine {
     pub const LOG_C4: LogLine = LogLine {
         slope: 278294208,
-        start: 847037242980705,
+        start: 810560664515757,
     };
 
     pub const EI160: LogLine = LogLine {
         slope: 347840407,
-        start: 1044274836975159,
+        start: 998682699113490,
     };
 
     pub const EI200: LogLine = LogLine {
         slope: 343924171,
-        start: 1031170017128729,
+        start: 986091188213012,
     };
 
     pub const EI250: LogLine = LogLine {
         slope: 340007934,
-        start: 1018064915807323,
+        start: 973499395837557,
     };
 
     pub const EI320: LogLine = LogLine {
         slope: 335675380,
-        start: 1003566069847556,
+        start: 959568426496437,
     };
 
     pub const EI400: LogLine = LogLine {
         slope: 331759143,
-        start: 990460124101219,
+        start: 946975789696052,
     };
 
     pub const EI500: LogLine = LogLine {
         slope: 327842907,
-        start: 977353333929952,
+        start: 934382308470736,
     };
 
     pub const EI640: LogLine = LogLine {
         slope: 323511645,
-        start: 962857361790921,
+        start: 920454043485531,
     };
 
     pub const EI800: LogLine = LogLine {
         slope: 319595408,
-        start: 949749727194724,
+        start: 907859717835285,
     };
 
     pub const EI1000: LogLine = LogLine {
         slope: 315679172,
-        start: 936641529648574,
+        start: 895264829235086,
     };
 
     pub const EI1280: LogLine = LogLine {
         slope: 311346617,
-        start: 922139305989086,
+        start: 881330482194246,
     };
 
     pub const EI1600: LogLine = LogLine {
         slope: 307430381,
-        start: 909029982543029,
+        start: 868734467694140,
     };
 
     // of no curve

@@ -9,12 +9,16 @@ use borrow.Author.Tests.{le-leb}
 use lib.Dec.{T, leb, ltb, leb→le, ltb→lt}
 use Rattle.rules.specs.declared.Setting.{Setting}
 use Rattle.rules.specs.declared.Check.the-variants.{Passed}
-use Rattle.rules.specs.declared.Refusal.the-variants.{CodeAboveTop}
+use Rattle.rules.specs.declared.Refusal.the-variants.{CodeAboveTop, CodeBelowFirst}
+use Rattle.rules.specs.Refusal.{refuseUnless}
 use Rattle.rules.specs.Setting.{codesOf, lastOf, codeAt, stepOf, codeCheck, Valid}
-use Rattle.rules.proofs.Settings.{passed-only, forSettings, for-valid}
+use Rattle.rules.proofs.Settings.{passed-only, both, forSettings, for-valid}
 
-passed-below : (s : Setting) (n : ℕ) → codeCheck s n ≡ Passed → n ≤ codeAt s (lastOf s)
-passed-below s n e = leb→le n (codeAt s (lastOf s)) (passed-only (leb n (codeAt s (lastOf s))) CodeAboveTop e)
+-- a code that passes is between the first code and the last
+pub bounds : (s : Setting) (n : ℕ) → codeCheck s n ≡ Passed → (codesOf s .first ≤ n) × (n ≤ codeAt s (lastOf s))
+bounds s n e =
+    let b = both (refuseUnless (leb (codesOf s .first) n) CodeBelowFirst) (refuseUnless (leb n (codeAt s (lastOf s))) CodeAboveTop) e in
+    (leb→le (codesOf s .first) n (passed-only (leb (codesOf s .first) n) CodeBelowFirst (b .0)), leb→le n (codeAt s (lastOf s)) (passed-only (leb n (codeAt s (lastOf s))) CodeAboveTop (b .1)))
 
 pub step-of-code : (s : Setting) (i : ℕ) → stepOf s (codeAt s i) ≡ i
 unfolding codesOf
@@ -22,20 +26,20 @@ step-of-code s i = omega arith
 
 pub code-of-step : (s : Setting) (n : ℕ) → codeCheck s n ≡ Passed → codeAt s (stepOf s n) ≡ n
 unfolding codesOf
-code-of-step s n e = omega arith
+code-of-step s n e = omega (arith, bounds s n e .0)
 
 pub code-passed : (s : Setting) (n : ℕ) → codeCheck s n ≡ Passed → stepOf s n ≤ lastOf s
 unfolding codesOf
-code-passed s n e = omega (arith, passed-below s n e)
+code-passed s n e = omega (arith, bounds s n e .0, bounds s n e .1)
 
 pub code-passes : (s : Setting) (i : ℕ) → i ≤ lastOf s → codeCheck s (codeAt s i) ≡ Passed
 unfolding codesOf
-code-passes s i h = rw (le-leb (codeAt s i) (codeAt s (lastOf s)) (omega arith))
+code-passes s i h = rw (le-leb (codesOf s .first) (codeAt s i) (omega arith), le-leb (codeAt s i) (codeAt s (lastOf s)) (omega arith))
 
 -- a later code has a later step, and the other way round
 pub step-rises : (s : Setting) (m n : ℕ) → codeCheck s m ≡ Passed → codeCheck s n ≡ Passed → m < n → stepOf s m < stepOf s n
 unfolding codesOf
-step-rises s m n p q h = omega arith
+step-rises s m n p q h = omega (arith, bounds s m p .0)
 
 pub code-rises : (s : Setting) (i j : ℕ) → i < j → codeAt s i < codeAt s j
 unfolding codesOf
@@ -48,7 +52,7 @@ top-small s v =
     ltb→lt (codeAt s (lastOf s)) (2 ^ 16) (for-valid (λ c w e. ltb (codeAt (record { curve = c; width = w; ei = e }) (lastOf (record { curve = c; width = w; ei = e }))) (2 ^ 16)) tt s v)
 
 pub code-small : (s : Setting) → Valid s → (i : ℕ) → i ≤ lastOf s → codeAt s i < 2 ^ 16
-code-small s v i h = lt-of-le-of-lt (passed-below s (codeAt s i) (code-passes s i h)) (top-small s v)
+code-small s v i h = lt-of-le-of-lt (bounds s (codeAt s i) (code-passes s i h) .1) (top-small s v)
 
 pub last-small : (s : Setting) → Valid s → lastOf s < 2 ^ 16
 unfolding codesOf

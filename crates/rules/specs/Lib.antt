@@ -8,11 +8,11 @@ pub mod Fraction
 pub mod Refusal
 -- what a call gives: number, index, values
 pub mod Result
--- the two curves, as formulas with exact decimals
+-- the curves, as formulas with exact decimals
 pub mod Curve
 -- the settings there are, their checks, their codes
 pub mod Setting
--- a fraction compared with the exact value at a code
+-- a fraction compared with the exact value at a step
 pub mod Exact
 -- what a decoded number is
 pub mod Decoding

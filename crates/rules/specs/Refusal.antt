@@ -4,7 +4,7 @@ use mathlib.Core.Bool.{Bool}
 use Prim.Native.Nat.{ℕ}
 use Rattle.rules.specs.Choice.{choose}
 use Rattle.rules.specs.declared.Refusal.{Refusal}
-use Rattle.rules.specs.declared.Refusal.the-variants.{PartialRecord, ShortOutput, UnknownCurve, UnknownWidth, UnknownEi, CodeAboveTop, SceneOutOfRange, FloatNotFinite, FloatOutOfRange, NoPixel}
+use Rattle.rules.specs.declared.Refusal.the-variants.{PartialRecord, ShortOutput, UnknownCurve, UnknownWidth, UnknownEi, CodeAboveTop, SceneOutOfRange, FloatNotFinite, FloatOutOfRange, NoPixel, CodeBelowFirst}
 use Rattle.rules.specs.declared.Check.{Check}
 use Rattle.rules.specs.declared.Check.the-variants.{Passed, Refused}
 
@@ -29,6 +29,8 @@ numberOf FloatNotFinite = 8
 numberOf FloatOutOfRange = 9
 -- record, way back: no pixel of this setting has this triple
 numberOf NoPixel = 10
+-- 02, item 1: "a code below 256 at width 140, checked in the channel just before 6"
+numberOf CodeBelowFirst = 11
 
 -- the second check's answer where the first passes
 abbrev pub then : Check → Check → Check

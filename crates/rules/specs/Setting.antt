@@ -10,7 +10,7 @@ use Rattle.rules.specs.declared.CurveName.{CurveName}
 use Rattle.rules.specs.declared.CurveName.the-variants.{LogC3, LogC4, Unknown}
 use Rattle.rules.specs.declared.Check.{Check}
 use Rattle.rules.specs.declared.Check.the-variants.{Passed}
-use Rattle.rules.specs.declared.Refusal.the-variants.{UnknownCurve, UnknownWidth, UnknownEi, CodeAboveTop}
+use Rattle.rules.specs.declared.Refusal.the-variants.{UnknownCurve, UnknownWidth, UnknownEi, CodeAboveTop, CodeBelowFirst}
 use Rattle.rules.specs.Choice.{choose, member}
 use Rattle.rules.specs.Refusal.{then, refuseUnless}
 use Rattle.rules.specs.Curve.{Curve, logC4, logC, Row, logC3Rows, noConstants, constantsAt}
@@ -26,10 +26,10 @@ known LogC3 = true
 known LogC4 = true
 known Unknown = false
 
--- "Curve 3 has widths 10, 12, 16 .. Curve 4 has widths 12 and 16"
+-- "Curve 3 has widths 10, 12, 16 .. Curve 4 has widths 12 and 16"; 02, item 1: "Add width byte 140 for curve 4"
 abbrev pub widthsOf : CurveName → List ℕ
 widthsOf LogC3 = 10 ∷ 12 ∷ 16 ∷ []
-widthsOf LogC4 = 12 ∷ 16 ∷ []
+widthsOf LogC4 = 12 ∷ 16 ∷ 140 ∷ []
 widthsOf Unknown = []
 
 -- ".. and EI 160, 200, .." (those of the table of constants), ".. and EI 0"
@@ -70,9 +70,15 @@ pub record Codes : Type 0 where
   pub apart : ℕ
   pub last : ℕ
 
--- every whole number from 0 to the top code
+-- 02, item 1, of width 140: "the signal is (n - 256) / 3504 and the codes are 256 to 3760". Else the codes are those from 0 to the top code.
+abbrev pub firstCode : (width : ℕ) → ℕ
+firstCode width = choose (eqb width 140) 256 0
+
+abbrev pub lastStep : (width : ℕ) → ℕ
+lastStep width = choose (eqb width 140) 3504 (topOf width)
+
 unfoldable pub codesOf : Setting → Codes
-codesOf s = record { first = 0; apart = 1; last = topOf (s .width) }
+codesOf s = record { first = firstCode (s .width); apart = 1; last = lastStep (s .width) }
 
 abbrev pub lastOf : Setting → ℕ
 lastOf s = codesOf s .last
@@ -84,6 +90,6 @@ codeAt s i = codesOf s .first + i * codesOf s .apart
 abbrev pub stepOf : Setting → (code : ℕ) → ℕ
 stepOf s n = (n - codesOf s .first) / codesOf s .apart
 
--- refusal 6, of a setting that passes its checks: "code above top"
+-- refusals 11 and 6, of a setting that passes its checks: a code below the first, and one above that of the last step ("code above top")
 abbrev pub codeCheck : Setting → ℕ → Check
-codeCheck s n = refuseUnless (leb n (codeAt s (lastOf s))) CodeAboveTop
+codeCheck s n = then (refuseUnless (leb (codesOf s .first) n) CodeBelowFirst) (refuseUnless (leb n (codeAt s (lastOf s))) CodeAboveTop)

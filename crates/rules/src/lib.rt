@@ -64,6 +64,7 @@ pub enum Refusal {
     FloatNotFinite,
     FloatOutOfRange,
     NoPixel,
+    CodeBelowFirst,
 }
 
 // What a check answers.

@@ -5,7 +5,8 @@ ghost use Rattle.rules.specs.declared.Refusal.the-variants.{UnknownWidth, Unkno
 ghost use Rattle.rules.specs.Pixels.{codesCheck};
 ghost use Prim.Native.Nat.{_≤_};
 ghost use Rattle.rules.specs.declared.Check.the-variants.{Passed};
-ghost use Rattle.rules.specs.Setting.{lastOf, codeAt, stepOf, settingCheck, codeCheck, Valid};
+ghost use Rattle.rules.specs.Setting.{codesOf, lastOf, codeAt, stepOf, settingCheck, codeCheck, Valid};
+ghost use Rattle.setting.specs.Between.{between, between3};
 ghost use Rattle.setting.specs.Same.{sameSetting};
 use curves::log_c3::LogC3;
 use curves::log_c4::LogC4;
@@ -32,6 +33,7 @@ pub fn refusal_number(r: Refusal) -> u8
         Refusal::FloatNotFinite => 8,
         Refusal::FloatOutOfRange => 9,
         Refusal::NoPixel => 10,
+        Refusal::CodeBelowFirst => 11,
     }
 }
 
@@ -68,8 +70,18 @@ pub fn last_step(s: Setting) -> Step
     match width {
         10 => Step(1023),
         12 => Step(4095),
+        140 => Step(3504),
         _ => Step(65535),
     }
+}
+
+// The first code of a setting, that of step 0: 256 at width 140, else 0. Only that width is 128 or
+// more, and a test of it took 6 % of the instructions of pixel to ACES.
+fn first_code(s: Setting) -> Code
+    requires { ⌜ Valid s ⌝ }
+    ensures { λ r. ⌜ r .0 ≡ codesOf s .first ⌝ }
+{
+    Code((s.width / 128) as u16 * 256)
 }
 
 // The code of a step.
@@ -78,23 +90,25 @@ pub fn code_at(s: Setting, i: Step) -> Code
     requires { ⌜ i .0 ≤ lastOf s ⌝ }
     ensures { λ r. ⌜ r .0 ≡ codeAt s (i .0) ⌝ }
 {
-    Code(i.0 as u16)
+    Code(first_code(s).0 + i.0 as u16)
 }
 
 // The step of a code that passes its check.
 pub fn step_of(s: Setting, n: Code) -> Step
+    requires { ⌜ Valid s ⌝ }
     requires { ⌜ codeCheck s (n .0) ≡ Passed ⌝ }
     ensures { λ r. ⌜ r .0 ≡ stepOf s (n .0) ⌝ }
 {
-    Step(n.0 as u64)
+    Step(n.0 as u64 - first_code(s).0 as u64)
 }
 
-// Refusal 6.
-pub fn check_code(s: Setting, n: Code) -> Check
-    requires { ⌜ Valid s ⌝ }
-    ensures { λ r. ⌜ r ≡ codeCheck s (n .0) ⌝ }
+// Refusals 11 and 6, of a code beside the first and the top code.
+fn check_between(first: Code, top: Code, n: Code) -> Check
+    ensures { λ r. ⌜ r ≡ between (n .0) (first .0) (top .0) ⌝ }
 {
-    let top = code_at(s, last_step(s));
+    if n.0 < first.0 {
+        return Check::Refused(Refusal::CodeBelowFirst);
+    }
     if n.0 <= top.0 {
         Check::Passed
     } else {
@@ -102,20 +116,40 @@ pub fn check_code(s: Setting, n: Code) -> Check
     }
 }
 
-// The checks of a pixel's codes: the first code that is refused decides.
+// The same, of a setting.
+pub fn check_code(s: Setting, n: Code) -> Check
+    requires { ⌜ Valid s ⌝ }
+    ensures { λ r. ⌜ r ≡ codeCheck s (n .0) ⌝ }
+{
+    check_between(first_code(s), code_at(s, last_step(s)), n)
+}
+
+// The checks of a pixel's codes beside the first and the top code: the first code that is refused decides.
+fn check_three(first: Code, top: Code, p: Pixel) -> Check
+    ensures { λ r. ⌜ r ≡ between3 p (first .0) (top .0) ⌝ }
+{
+    let red = check_between(first, top, p.red);
+    let Check::Passed = red else {
+        return red;
+    };
+    let green = check_between(first, top, p.green);
+    let Check::Passed = green else {
+        return green;
+    };
+    check_between(first, top, p.blue)
+}
+
+// The same, of a setting. (Where the first code is 0 it stands as a number, so that the compiler
+// drops the tests with it: they took 5 % of the instructions of pixel to ACES.)
 pub fn check_pixel(s: Setting, p: Pixel) -> Check
     requires { ⌜ Valid s ⌝ }
     ensures { λ x. ⌜ x ≡ codesCheck s p ⌝ }
 {
-    let red = check_code(s, p.red);
-    let Check::Passed = red else {
-        return red;
-    };
-    let green = check_code(s, p.green);
-    let Check::Passed = green else {
-        return green;
-    };
-    check_code(s, p.blue)
+    let first = first_code(s);
+    if first.0 == 0 {
+        return check_three(Code(0), code_at(s, last_step(s)), p);
+    }
+    check_three(first, code_at(s, last_step(s)), p)
 }
 
 // Whether two settings are the same.

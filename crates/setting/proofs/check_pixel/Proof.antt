@@ -1,24 +1,37 @@
--- `check_pixel` meets its contract: the first code that is refused decides.
+-- `check_pixel` meets its contract: the top code is that of the last step.
 -- Assumes nothing.
-use mathlib.Core.Path.{sym, _∙_}
+use mathlib.Core.Path.{ap, ap₂, sym, _∙_}
 use borrow.Author.Needs.{needs}
+use Rattle.rules.specs.Setting.{codeAt}
+use Rattle.setting.specs.Between.{between3}
 use Rattle.setting.proofs.check_pixel.Statement.{statement}
 use Rattle.setting.proofs.check_pixel.Tie as tie
 
 returns : tie.Need-returns
-returns c = rw (sym (c .before .before .check-code .ensures) ∙ c .enum-told2 .given .1) (c .enum-told2 .given .1)
+returns c =
+    let top = c .before in
+    let zero = top .before .before in
+    let first = zero .before .before in
+    c .check-three .ensures
+    ∙ ap₂ (between3 (first .before .args .p)) (sym (zero .if1 .taken) ∙ first .first-code .ensures) (top .code-at .ensures ∙ ap (codeAt (first .before .args .s)) (top .before .last-step .ensures))
 
 returns-2 : tie.Need-returns-2
 returns-2 c =
-    let k = c .before .before .before in
-    rw (sym (k .before .before .check-code .ensures) ∙ k .enum-told .given .1, sym (c .before .before .check-code2 .ensures) ∙ c .enum-told4 .given .1) (c .enum-told4 .given .1)
-
-returns-3 : tie.Need-returns-3
-returns-3 c =
-    let k = c .before .before .before .before in
-    rw (sym (k .before .before .check-code .ensures) ∙ k .enum-told .given .1, sym (c .before .before .before .check-code2 .ensures) ∙ c .before .enum-told3 .given .1) (c .check-code3 .ensures)
+    let top = c .before in
+    let first = top .before .before .before .before in
+    c .check-three2 .ensures
+    ∙ ap₂ (between3 (first .before .args .p)) (first .first-code .ensures) (top .code-at2 .ensures ∙ ap (codeAt (first .before .args .s)) (top .before .last-step2 .ensures))
 
 pub check-pixel-spec : {M : Type 1} → statement M
 check-pixel-spec =
     tie.close
-    (tie.spec (λ c κs. search needs) (λ c. search needs) (λ c. search needs) returns (λ c κs. search needs) (λ c. search needs) (λ c. search needs) returns-2 (λ c κs. search needs) returns-3)
+    (tie.spec
+    (λ c κs. search needs)
+    (λ c κs. search needs)
+    (λ c κs. search needs)
+    (λ c κs. search needs)
+    returns
+    (λ c κs. search needs)
+    (λ c κs. search needs)
+    (λ c κs. search needs)
+    returns-2)

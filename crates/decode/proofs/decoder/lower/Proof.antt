@@ -23,12 +23,12 @@ add-result c =
             arith,
             high-small (c .args .part) (c .args .over) (c .pre .2) (c .pre .1),
             rest-small (2 ^ 40 * c .args .part) (c .args .over) (c .pre .2) (c .pre .3),
-            div-le-self (2 ^ 40 * c .args .part % c .args .over * 8192) (c .args .over),
+            div-le-self (2 ^ 40 * c .args .part % c .args .over * 2048) (c .args .over),
           );
     }
 
 returns : tie.Need-returns
-returns c = sym (ap (λ (n : ℕ). n / c .args .over) (omega arith) ∙ two-steps (2 ^ 40 * c .args .part) 8192 (c .args .over) (c .pre .2))
+returns c = sym (ap (λ (n : ℕ). n / c .args .over) (omega arith) ∙ two-steps (2 ^ 40 * c .args .part) 2048 (c .args .over) (c .pre .2))
 
 pub lower-spec : {M : Type 1} → statement M
 lower-spec =

@@ -16,4 +16,4 @@ returns : tie.Need-returns
 returns c = c .number .ensures ∙ rw (c .before .step-of .ensures) (ready-number (c .before .before .pre .0) _)
 
 pub scene-spec : {M : Type 1} → statement M
-scene-spec = tie.close (tie.spec (λ c κs. search needs) number-requires returns)
+scene-spec = tie.close (tie.spec (λ c κs. (c .pre .0 .valid, c .pre .1)) number-requires returns)
