@@ -4,8 +4,9 @@
  *   gcc -Iinclude program.c target/staticlib/libropeinstant.a -o program      in the repository (`./ropeinstant --version` builds it)
  *
  * A strip is bytes: records of one size, one after the other, with no header; numbers are little endian. Each record begins with its
- * setting: curve (1 byte), width in bits (1 byte), EI (2 bytes). A pixel record has 10 bytes, with three codes of 2 bytes; a scene record
- * and an ACES record have 28, with three signed numbers of 8 bytes in units of 2^-24.
+ * setting: curve (1 byte), width (1 byte), EI (2 bytes). A width is a count of bits, at full range; 140 is the legal range of 12 bits, the
+ * codes 256 to 3760. A pixel record has 10 bytes, with three codes of 2 bytes; a scene record and an ACES record have 28, with three signed
+ * numbers of 8 bytes in units of 2^-24.
  *
  * Every function over strips reads in[0 .. in_len) and returns
  *   0       converted: *at is the count of records. Each record is written in its own stretch of the output, from out[0] on, and the bytes
@@ -44,6 +45,7 @@ enum ropeinstant_refusal {
     ROPEINSTANT_FLOAT_NOT_FINITE = 8,
     ROPEINSTANT_FLOAT_OUT_OF_RANGE = 9,
     ROPEINSTANT_NO_PIXEL = 10,
+    ROPEINSTANT_CODE_BELOW_FIRST = 11,
 };
 
 /* A refusal's number in words; "converted" for 0, and "no such refusal" for a number that no function returns. */
@@ -61,17 +63,18 @@ static inline const char *ropeinstant_words(uint32_t number)
     case ROPEINSTANT_FLOAT_NOT_FINITE: return "a float is infinite or not a number";
     case ROPEINSTANT_FLOAT_OUT_OF_RANGE: return "a float is below -65536 or above 65536";
     case ROPEINSTANT_NO_PIXEL: return "no pixel of the setting has this ACES triple";
+    case ROPEINSTANT_CODE_BELOW_FIRST: return "a code is below the first code of its width";
     default: return "no such refusal";
     }
 }
 
-/* Decoding: pixel records (10 bytes) to scene records (28 bytes). Refuses by 1 to 6. */
+/* Decoding: pixel records (10 bytes) to scene records (28 bytes). Refuses by 1 to 6 and 11. */
 uint32_t ropeinstant_pixel_to_scene(const uint8_t *in, size_t in_len, uint8_t *out, size_t out_len, uint64_t *at);
 
 /* Encoding: scene records (28 bytes) to pixel records (10 bytes), each number to the nearest code. Refuses by 1 to 5 and 7. */
 uint32_t ropeinstant_scene_to_pixel(const uint8_t *in, size_t in_len, uint8_t *out, size_t out_len, uint64_t *at);
 
-/* Pixel records (10 bytes) to ACES records (28 bytes). Refuses by 1 to 6. */
+/* Pixel records (10 bytes) to ACES records (28 bytes). Refuses by 1 to 6 and 11. */
 uint32_t ropeinstant_pixel_to_aces(const uint8_t *in, size_t in_len, uint8_t *out, size_t out_len, uint64_t *at);
 
 /* The way back: ACES records (28 bytes) to the pixel records (10 bytes) with exactly these ACES numbers. Refuses by 1 to 5 and 10.
@@ -82,7 +85,7 @@ uint32_t ropeinstant_aces_to_pixel(const uint8_t *in, size_t in_len, uint8_t *ou
 /* Float pixels, one at a time. Both return 0, or the number of the refusal, and then nothing that was lent has changed. This is proved, for
  * any numbers.
  *
- * Decoding: the three codes' scene numbers as floats, exactly: a scene number over 2^24. Refuses by 3 to 6. */
+ * Decoding: the three codes' scene numbers as floats, exactly: a scene number over 2^24. Refuses by 3 to 6 and 11. */
 uint32_t ropeinstant_codes_to_floats(uint8_t curve, uint8_t width, uint16_t ei, uint16_t red, uint16_t green, uint16_t blue, double floats[3]);
 
 /* Encoding: each float, taken to the nearest unit, to the nearest code; a float pixel that was decoded gives its codes again. Refuses by

@@ -18,7 +18,7 @@ pub const TO_ACES: Conversion = Conversion {
     from: &PIXEL,
     to: &ACES,
     convert: pixel_to_aces,
-    refusals: &[1, 3, 4, 5, 6],
+    refusals: &[1, 3, 4, 5, 11, 6],
 };
 
 pub const TO_CAMERA: Conversion = Conversion {
@@ -36,7 +36,7 @@ pub const TO_SCENE: Conversion = Conversion {
     from: &PIXEL,
     to: &SCENE,
     convert: pixel_to_scene,
-    refusals: &[1, 3, 4, 5, 6],
+    refusals: &[1, 3, 4, 5, 11, 6],
 };
 
 pub const FROM_SCENE: Conversion = Conversion {

@@ -2,7 +2,7 @@
 use crate::conversion::Conversion;
 use crate::kinds::KINDS;
 use crate::refusals::REFUSALS;
-use crate::settings::CURVES;
+use crate::settings::{Width, CURVES};
 
 pub const ABOUT: &str = "\
 Converts the codes of ARRI cameras (LogC4, LogC3) to scene numbers and ACES
@@ -31,7 +31,7 @@ pub fn general() -> String {
 fn file() -> String {
     let mut text = "\
 A file is records of one size with no header; numbers are little endian. Each
-record begins with its setting, 4 bytes: curve (1), width in bits (1), EI (2).
+record begins with its setting, 4 bytes: curve (1), width (1), EI (2).
 Three numbers follow, for red, green and blue:
 "
     .to_string();
@@ -56,14 +56,20 @@ master in whole numbers, and no OpenEXR file.
 
 /// The table of curves, widths and EI values.
 fn curves() -> String {
-    let mut text = "Curve  Widths      EI\n".to_string();
+    let mut text = "Curve  Widths       EI\n".to_string();
     for curve in &CURVES {
         let widths: Vec<String> = curve.widths.iter().map(|width| width.byte.to_string()).collect();
         let eis: Vec<String> = curve.eis.iter().map(u16::to_string).collect();
-        text += &format!("{:<6} {:<11} {}\n", curve.byte, widths.join(", "), eis.join(", "));
+        text += &format!("{:<6} {:<12} {}\n", curve.byte, widths.join(", "), eis.join(", "));
     }
     CURVES.iter().for_each(|curve| text += &format!("Curve {} is {}.\n", curve.byte, curve.name));
+    text += "A width is a count of bits, at full range.\n";
+    CURVES.iter().flat_map(|curve| curve.widths).filter(|width| width.lowest > 0).for_each(|width| text += &legal(width));
     text + "Any other EI is refused, those above 1600 among them.\n"
+}
+
+fn legal(width: &Width) -> String {
+    format!("Width {} is the legal range of 12 bits: the codes {} to {}.\n", width.byte, width.lowest, width.highest)
 }
 
 fn refusals() -> String {
@@ -175,7 +181,9 @@ mod tests {
     #[test]
     fn the_tables_are_there() {
         let text = help("");
-        assert!(text.contains("3      10, 12, 16  160, 200, 250, 320, 400, 500, 640, 800, 1000, 1280, 1600"));
-        assert!(text.contains("4      12, 16      0\n") && text.contains("one unit is 2^-24") && text.contains("    10  no pixel"));
+        assert!(text.contains("3      10, 12, 16   160, 200, 250, 320, 400, 500, 640, 800, 1000, 1280, 1600"));
+        assert!(text.contains("4      12, 16, 140  0\n") && text.contains("one unit is 2^-24") && text.contains("    10  no pixel"));
+        assert!(text.contains("Width 140 is the legal range of 12 bits: the codes 256 to 3760.\n"));
+        assert!(text.find("    11  a code is below") < text.find("    6   a code is above"));
     }
 }

@@ -77,6 +77,18 @@ mod tests {
     }
 
     #[test]
+    fn the_legal_range() {
+        let of = |codes: [u16; 3]| [4, 140, 0, 0].iter().copied().chain(codes.iter().flat_map(|code| code.to_le_bytes())).collect::<Vec<u8>>();
+        let (ends, mut scene, mut pixel) = (of([256, 581, 3760]), [0; kinds::SCENE.size()], [0; kinds::PIXEL.size()]);
+        assert_eq!(pixel_to_scene(&ends, &mut scene), Ok(1));
+        assert_eq!(kinds::SCENE.numbers(&scene), [-302946, -581, 7881936077]);
+        assert_eq!(scene_to_pixel(&scene, &mut pixel), Ok(1));
+        assert_eq!(pixel, ends[..]);
+        assert_eq!(pixel_to_scene(&of([100, 5000, 256]), &mut scene), Err(Refusal { number: 11, record: 0 }));
+        assert_eq!(pixel_to_scene(&of([5000, 100, 256]), &mut scene), Err(Refusal { number: 6, record: 0 }));
+    }
+
+    #[test]
     fn empty_and_refused() {
         assert_eq!(pixel_to_aces(&[], &mut []), Ok(0));
         let mut kept = [7; 2 * kinds::ACES.size()];

@@ -12,12 +12,13 @@ pub struct Refusal {
     cause: fn(&Kind, &Setting, &[u8]) -> String,
 }
 
-/// 2, an output that is too short, is not here: the command makes room for every record.
-pub const REFUSALS: [Refusal; 7] = [
+/// In the order in which they are tried. 2, an output that is too short, is not here: the command makes room for every record.
+pub const REFUSALS: [Refusal; 8] = [
     Refusal { number: 1, when: "the input is not a whole number of records", cause: |_, _, _| String::new() },
     Refusal { number: 3, when: "the curve is not known", cause: curve },
     Refusal { number: 4, when: "the width is not one of the curve's", cause: width },
     Refusal { number: 5, when: "the EI is not one of the curve's", cause: ei },
+    Refusal { number: 11, when: "a code is below the first code of its width", cause: code_below_first },
     Refusal { number: 6, when: "a code is above the top code of its width", cause: code_above_top },
     Refusal { number: 7, when: "a scene number to encode is outside -2^40 to 2^40", cause: scene_out_of_range },
     Refusal { number: 10, when: "no pixel of the setting has these ACES numbers", cause: no_pixel },
@@ -75,6 +76,14 @@ fn not_one_of(what: &str, value: u16, setting: &Setting, known: Vec<u16>) -> Str
     format!("{} {} is not one of curve {}'s, which {} {}{}", what, value, setting.curve, verb, listed(known, "and"), end)
 }
 
+fn code_below_first(kind: &Kind, setting: &Setting, record: &[u8]) -> String {
+    let first = setting.width().map_or(0, |width| width.lowest).into();
+    match CHANNELS.iter().zip(kind.numbers(record)).find(|(_, code)| *code < first) {
+        Some((channel, code)) => format!("{} code {} is below {}", channel, code, first),
+        None => "a code is below its first".to_string(),
+    }
+}
+
 fn code_above_top(kind: &Kind, setting: &Setting, record: &[u8]) -> String {
     let top = setting.width().map_or(u16::MAX, |width| width.highest).into();
     match CHANNELS.iter().zip(kind.numbers(record)).find(|(_, code)| *code > top) {
@@ -113,9 +122,18 @@ mod tests {
     }
 
     #[test]
+    fn the_first_code_below_the_first_of_its_width() {
+        assert_eq!(words(11, 7, (4, 140, 0), [256, 255, 0]), "record 7 (byte 70): green code 255 is below 256");
+        assert_eq!(words(11, 0, (4, 140, 0), [100, 5000, 256]), "record 0 (byte 0): red code 100 is below 256");
+        assert_eq!(words(6, 0, (4, 140, 0), [5000, 100, 256]), "record 0 (byte 0): red code 5000 is above 3760");
+        assert_eq!(words(6, 0, (4, 140, 0), [3760, 256, 3761]), "record 0 (byte 0): blue code 3761 is above 3760");
+    }
+
+    #[test]
     fn settings() {
         assert_eq!(words(3, 0, (2, 12, 0), [0; 3]), "record 0 (byte 0): curve 2 is neither 3 nor 4");
-        assert!(words(4, 1, (4, 10, 0), [0; 3]).ends_with("width 10 is not one of curve 4's, which are 12 and 16"));
+        assert!(words(4, 1, (4, 10, 0), [0; 3]).ends_with("width 10 is not one of curve 4's, which are 12, 16 and 140"));
+        assert!(words(4, 1, (3, 140, 800), [0; 3]).ends_with("width 140 is not one of curve 3's, which are 10, 12 and 16"));
         assert!(words(5, 2, (4, 12, 800), [0; 3]).ends_with("EI 800 is not one of curve 4's, which is 0 only"));
     }
 

@@ -22,6 +22,9 @@ const fn full(bits: u8) -> Width {
     Width { byte: bits, lowest: 0, highest: ((1_u32 << bits) - 1) as u16, step: 1 }
 }
 
+/// The legal range of 12 bits, as recorders write it.
+const LEGAL: Width = Width { byte: 140, lowest: 256, highest: 3760, step: 1 };
+
 pub const CURVES: [Curve; 2] = [
     Curve {
         byte: 3,
@@ -29,7 +32,7 @@ pub const CURVES: [Curve; 2] = [
         widths: &[full(10), full(12), full(16)],
         eis: &[160, 200, 250, 320, 400, 500, 640, 800, 1000, 1280, 1600],
     },
-    Curve { byte: 4, name: "LogC4", widths: &[full(12), full(16)], eis: &[0] },
+    Curve { byte: 4, name: "LogC4", widths: &[full(12), full(16), LEGAL], eis: &[0] },
 ];
 
 /// The bytes of a setting, with which every record begins.
@@ -94,8 +97,8 @@ mod tests {
     use super::*;
 
     #[test]
-    fn there_are_35_and_each_reads_back() {
-        assert_eq!(all().count(), 35);
+    fn there_are_36_and_each_reads_back() {
+        assert_eq!(all().count(), 36);
         assert!(all().all(|setting| Setting::of(&setting.bytes()) == setting && known(&setting)));
     }
 
