@@ -1,6 +1,6 @@
 //! The contest of one setting: the contestants' times, and the shares of pixels that come back a code off.
 use crate::ocio::Ocio;
-use crate::plain::{self, ACES, PIXEL};
+use crate::plain::{self, Codes, ACES, PIXEL};
 
 #[repr(C)]
 struct Timespec {
@@ -102,6 +102,7 @@ impl Contest {
 
 /// Pixel records with random codes.
 fn random_strip(setting: &Setting, pixels: usize) -> Vec<u8> {
+    let codes = Codes::of(setting.width);
     let mut state = 88172645463325252_u64;
     let mut strip = Vec::with_capacity(PIXEL * pixels);
     for _ in 0..pixels {
@@ -111,14 +112,10 @@ fn random_strip(setting: &Setting, pixels: usize) -> Vec<u8> {
             state ^= state << 13;
             state ^= state >> 7;
             state ^= state << 17;
-            strip.extend((((state >> 20) & top(setting)) as u16).to_le_bytes());
+            strip.extend((codes.first + ((state >> 20) % (codes.span as u64 + 1)) as u16).to_le_bytes());
         }
     }
     strip
-}
-
-fn top(setting: &Setting) -> u64 {
-    (1 << setting.width) - 1
 }
 
 type Function = unsafe extern "C" fn(*const u8, usize, *mut u8, usize, *mut u64) -> u32;
@@ -142,7 +139,8 @@ fn converted(function: Function, input: &[u8], length: usize) -> Vec<u8> {
 
 /// The signals of a strip's codes, as OpenColorIO takes them.
 fn signals(setting: &Setting, strip: &[u8]) -> Vec<f32> {
-    codes(strip).iter().map(|code| f32::from(*code) / top(setting) as f32).collect()
+    let known = Codes::of(setting.width);
+    codes(strip).iter().map(|code| f32::from(*code - known.first) / known.span as f32).collect()
 }
 
 fn codes(strip: &[u8]) -> Vec<u16> {
@@ -173,7 +171,8 @@ fn differing(a: &[u8], b: &[u8], record: usize) -> f64 {
 /// The share of pixels that OpenColorIO gives back a code off.
 fn codes_off(setting: &Setting, strip: &[u8], ocio: &Ocio, mut values: Vec<f32>) -> f64 {
     ocio.to_camera(&mut values);
-    let returned: Vec<u16> = values.iter().map(|signal| (signal * top(setting) as f32).round() as u16).collect();
+    let known = Codes::of(setting.width);
+    let returned: Vec<u16> = values.iter().map(|signal| known.first + (signal * known.span as f32).round() as u16).collect();
     let count = codes(strip).chunks_exact(3).zip(returned.chunks_exact(3)).filter(|(x, y)| x != y).count();
     count as f64 / (strip.len() / PIXEL) as f64
 }

@@ -7,11 +7,12 @@ use contest::{Contest, Setting, Times, LINE};
 use ocio::Ocio;
 
 const COUNTED: usize = 1 << 20; // pixels of which those that come back a code off are counted
-const SETTINGS: [Setting; 4] = [
+const SETTINGS: [Setting; 5] = [
     Setting { curve: 3, width: 12, ei: 800 },
     Setting { curve: 3, width: 16, ei: 800 },
     Setting { curve: 4, width: 12, ei: 0 },
     Setting { curve: 4, width: 16, ei: 0 },
+    Setting { curve: 4, width: 140, ei: 0 },
 ];
 
 fn main() {

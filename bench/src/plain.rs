@@ -28,7 +28,36 @@ pub struct Plain {
     setting: [u8; 4],
     curve: Curve,
     inverse: [[f64; 3]; 3],
-    top: f64,
+    codes: Codes,
+}
+
+/// The codes of a width: the first, for the signal 0, and how many further the top code is, for the signal 1.
+#[derive(Clone, Copy)]
+pub struct Codes {
+    pub first: u16,
+    pub span: f64,
+}
+
+impl Codes {
+    pub fn of(width: u8) -> Codes {
+        match width {
+            140 => Codes { first: 256, span: 3504.0 },
+            bits => Codes { first: 0, span: f64::from((1_u32 << bits) - 1) },
+        }
+    }
+
+    fn holds(&self, code: u16) -> bool {
+        code >= self.first && f64::from(code - self.first) <= self.span
+    }
+
+    pub fn signal(&self, code: u16) -> f64 {
+        f64::from(code - self.first) / self.span
+    }
+
+    /// The nearest code of a signal, clipped to the first and the top code.
+    pub fn nearest(&self, signal: f64) -> u16 {
+        self.first + (signal * self.span).round().max(0.0).min(self.span) as u16
+    }
 }
 
 fn log_c3(ei: u16) -> Curve {
@@ -55,15 +84,15 @@ impl Plain {
         let ei = u16::from_le_bytes([setting[2], setting[3]]);
         let curve = match (setting[0], setting[1], ei) {
             (3, 10, 800) | (3, 12, 800) | (3, 16, 800) => log_c3(ei),
-            (4, 12, 0) | (4, 16, 0) => log_c4(),
+            (4, 12, 0) | (4, 16, 0) | (4, 140, 0) => log_c4(),
             _ => return None,
         };
         let inverse = inverse(&curve.matrix);
-        Some(Plain { setting, curve, inverse, top: f64::from((1_u32 << setting[1]) - 1) })
+        Some(Plain { setting, curve, inverse, codes: Codes::of(setting[1]) })
     }
 
     fn decode(&self, code: u16) -> f64 {
-        let (c, t) = (&self.curve, f64::from(code) / self.top);
+        let (c, t) = (&self.curve, self.codes.signal(code));
         let value = if t > c.border { (c.base.powf((t - c.d) / c.c) - c.b) / c.a } else { (t - c.f) / c.e };
         (value * UNIT + 0.5).floor()
     }
@@ -71,7 +100,7 @@ impl Plain {
     fn encode(&self, value: f64) -> u16 {
         let c = &self.curve;
         let t = if c.e * value + c.f > c.border { c.c * log(c.base, c.a * value + c.b) + c.d } else { c.e * value + c.f };
-        (t * self.top).round().max(0.0).min(self.top) as u16
+        self.codes.nearest(t)
     }
 
     fn aces(&self, scene: [f64; 3]) -> [i64; 3] {
@@ -129,7 +158,7 @@ pub fn to_aces(input: &[u8], output: &mut [u8]) -> bool {
             None => return false,
         };
         let codes = codes_of(pixel);
-        if codes.iter().any(|code| f64::from(*code) > plain.top) {
+        if codes.iter().any(|code| !plain.codes.holds(*code)) {
             return false;
         }
         aces[..SETTING].copy_from_slice(&pixel[..SETTING]);
