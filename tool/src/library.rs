@@ -78,7 +78,11 @@ mod tests {
 
     #[test]
     fn the_legal_range() {
-        let of = |codes: [u16; 3]| [4, 140, 0, 0].iter().copied().chain(codes.iter().flat_map(|code| code.to_le_bytes())).collect::<Vec<u8>>();
+        let of = |codes: [u16; 3]| {
+            let mut pixel = vec![4, 140, 0, 0];
+            codes.iter().for_each(|code| pixel.extend(code.to_le_bytes()));
+            pixel
+        };
         let (ends, mut scene, mut pixel) = (of([256, 581, 3760]), [0; kinds::SCENE.size()], [0; kinds::PIXEL.size()]);
         assert_eq!(pixel_to_scene(&ends, &mut scene), Ok(1));
         assert_eq!(kinds::SCENE.numbers(&scene), [-302946, -581, 7881936077]);
