@@ -4,8 +4,9 @@ triples one unit off, and strips that are short, long, damaged or random, by all
 the rules of 01 (rules.py)."""
 import random, subprocess, sys, time
 
+from decoded import codes_of
 from rules import ACES_TO_PIXEL, NUMBERS, PIXEL, PIXEL_TO_ACES, PIXEL_TO_SCENE, SCENE_TO_PIXEL, SETTINGS, aces, apart, numbers, pixel_of
-from strips import ENDS, hold, jobs, returned
+from strips import ENDS, end_jobs, hold, jobs, returned
 
 STRIPS, RECORDS = 20, 50000
 BORDERS = 1, 15, 16, 17, 1000, 4095, 4096, 4097, 20000  # records of a strip: where the library takes another way, and beside it
@@ -26,10 +27,9 @@ def same(got, want, record, asked):
         raise AssertionError((line, k, k is not None and (asked[k].hex(), made[k * record:(k + 1) * record].hex(), wanted[k * record:(k + 1) * record].hex())))
 
 
-def code(pick, width):
-    """a code, one in sixteen near an end"""
-    n = pick.getrandbits(width)
-    return n if pick.getrandbits(4) else pick.choice((0, 1, 2 ** width - 2, 2 ** width - 1))
+def code(pick, codes):
+    """one of some codes, one in sixteen near an end"""
+    return codes[pick.randrange(len(codes)) if pick.getrandbits(4) else pick.choice((0, 1, -2, -1))]
 
 
 def mixed(pick, table, count):
@@ -37,9 +37,9 @@ def mixed(pick, table, count):
     pixels, made, off = [], [], []
     while len(pixels) < count:
         s = pick.choice(SETTINGS)
-        ys, width = table[s], s[1]
+        ys, codes = table[s], codes_of(s)
         for _ in range(min(pick.choice((1, 2, 30, 100)), count - len(pixels))):
-            pixel = code(pick, width), code(pick, width), code(pick, width)
+            pixel = code(pick, codes), code(pick, codes), code(pick, codes)
             triple = aces(s, *(ys[n] for n in pixel))
             pixels.append(PIXEL.pack(*s, *pixel))
             made.append(NUMBERS.pack(*s, *triple))
@@ -111,9 +111,9 @@ def main():
     print(f"aces: {STRIPS * RECORDS} pixels of {len(SETTINGS)} settings in mixed strips: their ACES strips are exact in every byte, and give the pixels back")
     print(f"aces: {STRIPS * RECORDS} ACES triples one unit off in one channel are each refused by 10 (two pixels are {float(least):.1f} units apart or more)")
     print(f"aces: strips of {', '.join(map(str, BORDERS))} ACES records give the pixels back; {tried} with a record one unit off are refused there, and their outputs stay")
-    todo = [*listed(), *jobs(pick, table, (PIXEL_TO_ACES, ACES_TO_PIXEL), 4000), *jobs(pick, table, (PIXEL_TO_SCENE, SCENE_TO_PIXEL), 1000)]
+    todo = [*listed(), *end_jobs(table), *jobs(pick, table, (PIXEL_TO_ACES, ACES_TO_PIXEL), 4000), *jobs(pick, table, (PIXEL_TO_SCENE, SCENE_TO_PIXEL), 1000)]
     seen, done = hold([driver, "jobs"], table, todo)
-    assert all(f"refused {n}" in seen for n in (*range(1, 8), 10)), seen
+    assert all(f"refused {n}" in seen for n in (*range(1, 8), 10, 11)), seen
     strips, _ = returned([driver, "jobs"], done, PIXEL_TO_ACES, ACES_TO_PIXEL)
     print(f"aces: {len(todo)} strips, short, long, damaged or random, are converted or refused as the rules say, every byte of the outputs too: {seen}; {strips} ACES strips give the pixels back ({time.time() - begun:.0f} s)")
 

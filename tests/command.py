@@ -6,13 +6,13 @@ import errno, hashlib, os, pty, random, re, shutil, signal, subprocess, sys, tem
 from pathlib import Path
 
 from calls import DONE, FILES, GOOD, LOOKING, NAMES, NOBODY, OLD, PROGRAM, REFUSED, USAGE, begun, call, holds, keeps, limited, litter, until
-from decoded import SETTINGS
+from decoded import SETTINGS, WIDTHS, codes_of
 from peak import watched
 from reel import reel
 from rules import ACES_TO_PIXEL, LIMIT, NUMBERS, PIXEL, PIXEL_TO_ACES, PIXEL_TO_SCENE, READ, SCENE_TO_PIXEL, WRITTEN, convert, numbers
 from strips import jobs
 
-CHOSEN = [s for s in SETTINGS if s[1] < 16]
+CHOSEN = [s for s in SETTINGS if s[1] != 16]
 CHANNELS = "red", "green", "blue"
 
 
@@ -60,7 +60,7 @@ def demo(folder):
     """a reel of every setting goes to ACES and back, a damaged copy is refused, and nothing stays"""
     status, said, wrong = call("demo", env=dict(os.environ, TMPDIR=str(folder)))
     assert status == DONE and not wrong and not list(folder.iterdir()), (status, said, wrong)
-    for words in "A reel of 35 settings", "reel.pixels has 350000 bytes", "reel.aces has 980000 bytes", "back, byte for byte", "refused 10", "as it was":
+    for words in "A reel of 36 settings", "reel.pixels has 360000 bytes", "reel.aces has 1008000 bytes", "back, byte for byte", "refused 10", "as it was":
         assert words in said, said
 
 
@@ -73,15 +73,17 @@ def words_of(number, k, conversion, data):
         return f"refused 1: the input has {len(data)} bytes, which is not a whole number of records of {record.size} bytes"
     curve, width, ei, *channels = record.unpack_from(data, k * record.size)
     where = f"refused {number}: record {k} (byte {k * record.size}): "
-    if number == 6:
-        name, code = next((name, code) for name, code in zip(CHANNELS, channels) if code >= 2 ** width)
-        return where + f"{name} code {code} is above {2 ** width - 1}\n"
+    if number in (6, 11):
+        first, top = codes_of((curve, width))[0], codes_of((curve, width))[-1]
+        name, code = next((name, code) for name, code in zip(CHANNELS, channels) if not first <= code <= top)
+        return where + f"{name} code {code} is {f'below {first}' if number == 11 else f'above {top}'}\n"
     if number == 7:
         name, scene = next((name, scene) for name, scene in zip(CHANNELS, channels) if abs(scene) > LIMIT)
         return where + f"{name} scene number {scene} is outside -1099511627776 to 1099511627776\n"
+    *widths, last = WIDTHS.get(curve, (0,))
     return where + {
         3: f"curve {curve} is neither 3 nor 4\n",
-        4: f"width {width} is not one of curve {curve}'s, which are {'10, ' if curve == 3 else ''}12 and 16\n",
+        4: f"width {width} is not one of curve {curve}'s, which are {', '.join(map(str, widths))} and {last}\n",
         5: f"EI {ei} is not one of curve {curve}'s, which ",
         10: f"no pixel of curve {curve}, width {width}, EI {ei} has the ACES numbers {', '.join(map(str, channels))}\n",
     }[number]
@@ -108,7 +110,7 @@ def held_to_rules(folder, pick, table, count):
             keeps(out, *run, status=REFUSED, saying=saying, data=data if piped else None)
         cause = "done" if how == "done" else f"refused {number}"
         seen[cause] = seen.get(cause, 0) + 1
-    assert all(cause in seen for cause in ("done", *(f"refused {n}" for n in (1, 3, 4, 5, 6, 7, 10)))), seen
+    assert all(cause in seen for cause in ("done", *(f"refused {n}" for n in (1, 3, 4, 5, 6, 7, 10, 11)))), seen
     return dict(sorted(seen.items()))
 
 
@@ -119,6 +121,8 @@ def listed():
     of_pixels = [PIXEL.pack(*record) for record in (
         (2, 12, 800, 0, 0, 0), (4, 10, 0, 0, 0, 0), (3, 14, 800, 0, 0, 0), (3, 12, 2000, 0, 0, 0), (4, 12, 800, 0, 0, 0),
         (3, 10, 800, 1023, 1024, 2000), (3, 12, 800, 0, 0, 4096), (4, 12, 0, 65535, 0, 0),
+        (3, 140, 800, 256, 256, 256), (4, 140, 800, 256, 256, 256), (4, 140, 0, 256, 255, 0), (4, 140, 0, 3760, 256, 3761), (4, 140, 0, 100, 5000, 256),
+        (4, 140, 0, 5000, 100, 256),
     )]
     tried = [(c, GOOD * 7 + bad + GOOD, b"") for c in (PIXEL_TO_ACES, PIXEL_TO_SCENE) for bad in of_pixels]
     tried += [(SCENE_TO_PIXEL, scene * 3 + NUMBERS.pack(3, 12, 800, 0, x, 0), b"") for x in (LIMIT, LIMIT + 1, -LIMIT - 1, 2 ** 63 - 1)]

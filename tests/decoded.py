@@ -24,9 +24,19 @@ CONSTANTS = {  # EI: cut b c d e f
     1280: "0.012235 0.043137 0.240810 0.386590 5.229121 0.092819",
     1600: "0.013047 0.038625 0.237781 0.387093 5.163350 0.092824",
 }
-WIDTHS = {3: (10, 12, 16), 4: (12, 16)}
+WIDTHS = {  # curve: the codes of each of its widths
+    3: {10: range(2 ** 10), 12: range(2 ** 12), 16: range(2 ** 16)},
+    4: {12: range(2 ** 12), 16: range(2 ** 16), 140: range(256, 3761)},
+}
 EIS = {3: tuple(CONSTANTS), 4: (0,)}
-SETTINGS = [(curve, width, ei) for curve in (3, 4) for width in WIDTHS[curve] for ei in EIS[curve]]
+SETTINGS = [(curve, width, ei) for curve in WIDTHS for width in WIDTHS[curve] for ei in EIS[curve]]
+COUNT = 850353  # codes of all settings
+LISTED = {(4, 140, 0): {256: -302946, 581: -581, 1231: 3014569, 3760: 7881936077}}  # some codes of a setting and their numbers
+
+
+def codes_of(s):
+    """the codes of a setting, from the first to the top code"""
+    return WIDTHS[s[0]][s[1]]
 
 
 def number(x):
@@ -35,17 +45,18 @@ def number(x):
 
 def exact(curve, width, ei):
     """of each code in turn: whether it is in the toe, and the exact value in units (a fraction in the toe, else a decimal)"""
-    top = 2 ** width - 1
+    codes = codes_of((curve, width))
+    first_code, span = codes[0], codes[-1] - codes[0]
     if curve == 4:
-        base, first, step = 2, 6 - Fraction(14 * 95, 928), Fraction(14 * 1023, 928 * top)
+        base, first, step = 2, 6 - Fraction(14 * 95, 928), Fraction(14 * 1023, 928 * span)
         less, factor, border = Decimal(64), Decimal(783) / Decimal(1747520), Fraction(-1)
     else:
         cut, b, c, d, e, f = (Fraction(x) for x in CONSTANTS[ei].split())
-        base, first, step = 10, -d / c, 1 / (c * top)
+        base, first, step = 10, -d / c, 1 / (c * span)
         less, factor, border = number(b), 1 / Decimal("5.555556"), e * cut + f
     power, ratio = Decimal(base) ** number(first), Decimal(base) ** number(step)
-    for n in range(top + 1):
-        t = Fraction(n, top)
+    for n in codes:
+        t = Fraction(n - first_code, span)
         if t > border:
             yield False, (power - less) * factor * UNIT
         else:
@@ -53,14 +64,24 @@ def exact(curve, width, ei):
         power *= ratio
 
 
-def refusal(curve, width, ei, code):
+def setting_refusal(curve, width, ei):
+    """the refusal of a setting, or 0"""
     if curve not in WIDTHS:
         return 3
     if width not in WIDTHS[curve]:
         return 4
-    if ei not in EIS[curve]:
-        return 5
-    return 6 if code > 2 ** width - 1 else 0
+    return 0 if ei in EIS[curve] else 5
+
+
+def refusal(curve, width, ei, code):
+    """the refusal of a setting and a code, or 0"""
+    number = setting_refusal(curve, width, ei)
+    if number:
+        return number
+    codes = codes_of((curve, width))
+    if code < codes[0]:
+        return 11
+    return 6 if code > codes[-1] else 0
 
 
 def record(curve, width, ei, code):
@@ -69,13 +90,13 @@ def record(curve, width, ei, code):
 
 def main():
     begun = time.time()
-    accepted = [record(*s, n) for s in SETTINGS for n in range(2 ** s[1])]
+    accepted = [record(*s, n) for s in SETTINGS for n in codes_of(s)]
     odd = [
         (curve, width, ei, code)
         for curve in (0, 1, 2, 3, 4, 5, 255)
         for width in (0, 8, 10, 12, 14, 16, 17, 140, 255)
         for ei in (0, 1, 159, 160, 800, 1600, 1601, 2000, 65535)
-        for code in (0, 1023, 1024, 4095, 4096, 65535)
+        for code in (0, 255, 256, 1023, 1024, 3760, 3761, 4095, 4096, 65535)
         if refusal(curve, width, ei, code)
     ]
     text = b"".join(accepted) + b"".join(record(*r) for r in odd) + b"\x03"
@@ -88,8 +109,9 @@ def main():
     worst = Decimal(0)
     for s in SETTINGS:
         last = None
-        for toe, value in exact(*s):
+        for n, (toe, value) in zip(codes_of(s), exact(*s)):
             y = int(next(answers))
+            assert y == LISTED.get(s, {}).get(n, y), (s, n, y)
             if toe:
                 assert y == floor(value + Fraction(1, 2)), (s, y, value)
             else:
@@ -98,7 +120,7 @@ def main():
                 worst = max(worst, off)
             assert last is None or last < y, (s, y)
             last = y
-    assert len(accepted) == 846848
+    assert len(accepted) == COUNT
     print(f"decoded: {len(accepted)} codes of {len(SETTINGS)} settings have the nearest whole number to the exact value, and rise with the code")
     print(f"decoded: the largest distance in the power part is {worst:.9f}")
     print(f"decoded: {len(odd)} settings and codes are refused as listed ({time.time() - begun:.0f} s)")

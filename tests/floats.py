@@ -7,14 +7,14 @@ from fractions import Fraction
 from math import floor, inf, isfinite, nan, nextafter
 from struct import Struct
 
-from rules import SETTINGS, nearest, numbers
-from decoded import refusal
+from decoded import COUNT, codes_of, setting_refusal
+from rules import SETTINGS, first_refusal, nearest, numbers
+from strips import INVALID, ends
 
 UNIT = 2 ** 24
 DECODE, ENCODE = 0, 1
 CODES, FLOATS = Struct("<BBBH3Q"), Struct("<BBBH3d")
 BITS, FLOAT = Struct("<3Q"), Struct("<3d")
-INVALID = [(2, 12, 800), (5, 12, 0), (0, 0, 0), (3, 14, 800), (4, 10, 0), (3, 12, 2000), (3, 16, 0), (4, 12, 800), (4, 16, 65535)]
 ENDS = [sign * x for sign in (1, -1) for x in (
     0.0, 5e-324, 2.0 ** -1022, nextafter(2.0 ** -1022, 0), 2.0 ** -26, 2.0 ** -25, nextafter(2.0 ** -25, 0), nextafter(2.0 ** -25, 1), 3 * 2.0 ** -25,
     65536.0, nextafter(65536.0, 0), nextafter(65536.0, inf), 131072.0, 2.0 ** 63, 1.7976931348623157e308, inf, nan,
@@ -40,8 +40,8 @@ def units(x):
 
 def encoded(table, s, xs):
     """the line for a float pixel"""
-    number = refusal(*s, 0) or next(filter(None, map(refused, xs)), 0)
-    return f"refused {number}" if number else " ".join(str(nearest(table[s], units(x))) for x in xs)
+    number = setting_refusal(*s) or next(filter(None, map(refused, xs)), 0)
+    return f"refused {number}" if number else " ".join(str(nearest(table, s, units(x))) for x in xs)
 
 
 def any_float(pick):
@@ -54,9 +54,11 @@ def pixels(pick, table):
     """float pixels to encode, each with a setting"""
     for s, ys in table.items():
         # the last scene number of a code, and half a unit above it, where the next code begins
-        for n in sorted(pick.sample(range(len(ys) - 1), 200)):
-            x = ((ys[n] + ys[n + 1]) // 2 + 0.5) / UNIT
-            assert units(x) == (ys[n] + ys[n + 1]) // 2 + 1 and nearest(ys, units(x)) == n + 1
+        codes = codes_of(s)
+        for k in sorted(pick.sample(range(len(codes) - 1), 200)):
+            middle = (ys[codes[k]] + ys[codes[k + 1]]) // 2
+            x = (middle + 0.5) / UNIT
+            assert units(x) == middle + 1 and nearest(table, s, units(x)) == codes[k + 1]
             yield s, (nextafter(x, -inf), x, nextafter(x, inf))
         for _ in range(300):
             yield s, [any_float(pick) for _ in range(3)]
@@ -72,14 +74,17 @@ def main():
     program, pick = sys.argv[1], random.Random(int(sys.argv[2]) if len(sys.argv) > 2 else 1)
     table = {s: numbers(s) for s in SETTINGS}
 
-    # every code, three to a pixel; then settings that there are not, and one channel above the top code
-    asked = [(s, tuple(min(n + i, 2 ** s[1] - 1) for i in range(3))) for s in SETTINGS for n in range(0, 2 ** s[1], 3)]
+    # every code, three to a pixel; then settings that there are not, and codes at and beyond the ends
+    asked = []
+    for s in SETTINGS:
+        codes = codes_of(s)
+        asked += [(s, tuple(codes[min(k + i, len(codes) - 1)] for i in range(3))) for k in range(0, len(codes), 3)]
     asked += [(s, (0, 1, 2)) for s in INVALID]
-    asked += [(s, tuple(2 ** s[1] - (i != place) for i in range(3))) for s in SETTINGS if s[1] < 16 for place in range(3)]
+    asked += [(s, codes) for s in SETTINGS for codes in ends(s)]
     answers = run(program, [CODES.pack(DECODE, *s, *codes) for s, codes in asked])
-    decoded, floats = 0, []
+    decoded, floats = set(), []
     for (s, codes), line in zip(asked, answers):
-        number = next(filter(None, (refusal(*s, n) for n in codes)), 0)
+        number = first_refusal(s, codes)
         if number:
             assert line == f"refused {number}", (s, codes, line)
             continue
@@ -87,10 +92,10 @@ def main():
         for n, x in zip(codes, xs):
             y, (over, under) = table[s][n], x.as_integer_ratio()
             assert over * UNIT == y * under and (y or str(x) == "0.0"), (s, n, x)
-        decoded += len(set(codes))
+        decoded.update((s, n) for n in codes)
         floats.append((s, codes, xs))
 
-    assert decoded == 846848
+    assert len(decoded) == COUNT
     back = run(program, [FLOATS.pack(ENCODE, *s, *xs) for s, _, xs in floats])
     for (s, codes, xs), line in zip(floats, back):
         assert line == " ".join(map(str, codes)), (s, codes, line)
@@ -101,7 +106,7 @@ def main():
     for (s, xs), line in zip(others, lines):
         assert line == encoded(table, s, xs), (s, xs, line)
         wrong += line.startswith("refused")
-    print(f"floats: {decoded} codes decoded to their numbers over 2^24 exactly, and encoded back to themselves")
+    print(f"floats: {len(decoded)} codes decoded to their numbers over 2^24 exactly, and encoded back to themselves")
     print(f"floats: {len(others)} other float pixels, {wrong} of them refused, are encoded as the rules say ({time.time() - begun:.0f} s)")
 
 

@@ -4,7 +4,7 @@ and more than its buffer holds, piped in odd pieces; hold every byte that it pri
 import random, subprocess, sys, threading, time
 
 from rules import PIXEL, PIXEL_TO_ACES, SETTINGS, numbers, one
-from decoded import refusal
+from decoded import codes_of, setting_refusal
 from strips import INVALID
 
 EXAMPLE = bytes.fromhex("030C2003640000000000040A0000000000000000")
@@ -18,21 +18,21 @@ def listed(table, data):
     whole = len(data) // PIXEL.size * PIXEL.size
     lines = []
     for k, (*s, r, g, b) in enumerate(PIXEL.iter_unpack(data[:whole])):
-        made = refusal(*s, 0) or one(table, PIXEL_TO_ACES, tuple(s), (r, g, b))
+        made = setting_refusal(*s) or one(table, PIXEL_TO_ACES, tuple(s), (r, g, b))
         lines.append(f"{k} refused {made}\n" if isinstance(made, int) else "%d ok %d %d %d\n" % (k, *made))
     if whole < len(data):
         lines.append(f"tail {len(data) - whole}\n")
     return "".join(lines).encode()
 
 
-def code(pick, width):
-    """a code, one in sixteen at or past an end"""
-    top = 2 ** width - 1
-    return pick.getrandbits(width) if pick.getrandbits(4) else pick.choice((0, 1, top - 1, top, min(top + 1, 65535), 65535))
+def code(pick, codes):
+    """one of some codes, one in sixteen at or past an end"""
+    first, top = codes[0], codes[-1]
+    return pick.choice(codes) if pick.getrandbits(4) else pick.choice((0, max(first - 1, 0), first, codes[1], codes[-2], top, min(top + 1, 65535), 65535))
 
 
 def pixel(pick, s):
-    return PIXEL.pack(*s, *(code(pick, s[1]) for _ in range(3)))
+    return PIXEL.pack(*s, *(code(pick, codes_of(s)) for _ in range(3)))
 
 
 def mixed(pick, count):
@@ -85,11 +85,13 @@ def inputs(pick):
         yield EXAMPLE + bytes(n)
         yield pick.randbytes(n)
     for s in SETTINGS:
-        top = 2 ** s[1] - 1
-        yield PIXEL.pack(*s, 0, 0, 0) + PIXEL.pack(*s, top, top, top) + b"".join(pixel(pick, s) for _ in range(50))
+        first, top = codes_of(s)[0], codes_of(s)[-1]
+        yield PIXEL.pack(*s, first, first, first) + PIXEL.pack(*s, top, top, top) + b"".join(pixel(pick, s) for _ in range(50))
     yield b"".join(PIXEL.pack(*s, 0, 0, 0) for s in INVALID)
     for at in range(3):
         yield PIXEL.pack(3, 10, 800, *(1024 if i == at else 1023 for i in range(3)))
+        yield PIXEL.pack(4, 140, 0, *(255 if i == at else 256 for i in range(3))) + PIXEL.pack(4, 140, 0, *(3761 if i == at else 3760 for i in range(3)))
+    yield PIXEL.pack(4, 140, 0, 100, 5000, 256) + PIXEL.pack(4, 140, 0, 5000, 100, 256)
     for n in (PIECE - 1, PIECE, PIECE + 1, 2 * PIECE, 3 * PIECE + 5):
         yield mixed(pick, n) + pick.randbytes(pick.choice((0, 0, 1, 9)))
     for _ in range(200):
@@ -108,7 +110,7 @@ def main():
         count, records = count + 1, records + len(data) // PIXEL.size
     long = mixed(pick, RECORDS) + b"\x03\x0c\x20"
     want = listed(table, long)
-    assert all(b" refused %d\n" % n in want for n in (3, 4, 5, 6)) and want.endswith(b"tail 3\n")
+    assert all(b" refused %d\n" % n in want for n in (3, 4, 5, 6, 11)) and want.endswith(b"tail 3\n")
     same(run(program, long), want)
     for steps in (1, 3, 7, 999, 4097), (65535, 65536, 65537), (131071,):
         part = long[:sum(steps) * 3]

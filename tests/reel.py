@@ -1,25 +1,34 @@
 #!/usr/bin/env python3
 """reel.py BYTES FILE [SEED]: write a reel of random pixel records, as many as BYTES hold, all accepted, in runs of one setting; every setting occurs in
-a reel of 35 runs or more."""
+a reel of 36 runs or more."""
 import random, sys
 from struct import calcsize
 
-from decoded import SETTINGS
+from decoded import SETTINGS, codes_of
 from rules import PIXEL
 
 RUN = 20000  # records
 
 
+def low_and_high(pick, codes, count):
+    """the low bytes and the high bytes of random codes. All are computed at once, in one whole number with four bytes for each: a random number
+    below 2^16, times how many codes there are, is the place of a code, times 2^16, and a fraction"""
+    data = bytearray(4 * count)
+    data[::4], data[1::4] = pick.randbytes(count), pick.randbytes(count)
+    first = (codes[0] << 16).to_bytes(4, "little") * count
+    made = int.from_bytes(data, "little") * len(codes) + int.from_bytes(first, "little")
+    data = made.to_bytes(4 * count, "little")
+    return data[2::4], data[3::4]
+
+
 def run(pick, setting, count):
     """records of one setting, with random codes"""
     curve, width, ei = setting
-    high = bytes(b & (1 << width - 8) - 1 for b in range(256))  # what a random byte becomes as a code's high byte
     data = bytearray(PIXEL.size * count)
     for place, byte in enumerate((curve, width, *ei.to_bytes(2, "little"))):
         data[place::PIXEL.size] = bytes((byte,)) * count
     for place in range(calcsize("<BBH"), PIXEL.size, calcsize("<H")):  # the codes, behind the setting
-        data[place::PIXEL.size] = pick.randbytes(count)
-        data[place + 1::PIXEL.size] = pick.randbytes(count).translate(high)
+        data[place::PIXEL.size], data[place + 1::PIXEL.size] = low_and_high(pick, codes_of(setting), count)
     return data
 
 

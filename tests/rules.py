@@ -5,7 +5,7 @@ from fractions import Fraction
 from math import floor
 from struct import Struct
 
-from decoded import SETTINGS, exact, refusal
+from decoded import SETTINGS, codes_of, exact, refusal, setting_refusal
 
 LIMIT = 2 ** 40  # of a scene number to encode
 PIXEL_TO_SCENE, SCENE_TO_PIXEL, PIXEL_TO_ACES, ACES_TO_PIXEL = range(4)
@@ -27,14 +27,15 @@ MATRICES = {  # curve: scale, rows
 
 
 def numbers(s):
-    """the decoded numbers of a setting's codes; decoded.py shows that each is the nearest whole number"""
-    return [floor(value + (Fraction(1, 2) if toe else 1 / (value * 0 + 2))) for toe, value in exact(*s)]
+    """the decoded number of each code of a setting; decoded.py shows that each is the nearest whole number"""
+    return {n: floor(value + (Fraction(1, 2) if toe else 1 / (value * 0 + 2))) for n, (toe, value) in zip(codes_of(s), exact(*s))}
 
 
-def nearest(ys, x):
-    """the code whose number is nearest to x; of two, the lower"""
-    i = bisect_left(ys, x)
-    return min((n for n in (i - 1, i) if 0 <= n < len(ys)), key=lambda n: (abs(x - ys[n]), n))
+def nearest(table, s, x):
+    """the code of a setting whose number is nearest to x; of two, the lower"""
+    codes, ys = codes_of(s), table[s]
+    i = bisect_left(codes, x, key=ys.get)
+    return min(codes[max(i - 1, 0):i + 1], key=lambda n: (abs(x - ys[n]), n))
 
 
 def aces(s, r, g, b):
@@ -58,13 +59,14 @@ def pixel_of(table, s, triple):
     """the codes of the pixel of a setting with exactly this ACES triple, or None. A channel of the pixel's decoded numbers is the inverse's
     row product with numbers at most a half from the triple, so it lies in an interval; each pixel in the intervals is tried."""
     over, rows = INVERSES[s[0]]
+    codes, number = codes_of(s), table[s].get
     found = [()]
     for row in rows:
         middle, reach = 2 * sum(m * x for m, x in zip(row, triple)), sum(abs(m) for m in row)
         low, high = -((reach - middle) // (2 * over)), (middle + reach) // (2 * over)
-        codes = range(bisect_left(table[s], low), bisect_right(table[s], high))
-        found = [some + (n,) for some in found for n in codes]
-    found = [codes for codes in found if aces(s, *(table[s][n] for n in codes)) == list(triple)]
+        between = codes[bisect_left(codes, low, key=number):bisect_right(codes, high, key=number)]
+        found = [some + (n,) for some in found for n in between]
+    found = [pixel for pixel in found if aces(s, *map(number, pixel)) == list(triple)]
     assert len(found) < 2, (s, triple, found)
     return found[0] if found else None
 
@@ -73,21 +75,28 @@ def apart(table, s):
     """a number of units such that some channel of two different pixels' ACES triples differs by as much: a channel of their decoded numbers
     differs by the least step, and each ACES number is at most a half from its row product"""
     over, rows = INVERSES[s[0]]
-    step = min(b - a for a, b in zip(table[s], table[s][1:]))
+    ys = list(table[s].values())
+    step = min(b - a for a, b in zip(ys, ys[1:]))
     return Fraction(step * over, max(sum(abs(m) for m in row) for row in rows)) - 1
+
+
+def first_refusal(s, codes):
+    """the refusal of a setting and its codes, red, green and blue in turn, or 0"""
+    return next(filter(None, (refusal(*s, n) for n in codes)), 0)
 
 
 def one(table, conversion, s, channels):
     """what the channels of a record become, or the number of its refusal; the setting is valid"""
     if conversion in (PIXEL_TO_SCENE, PIXEL_TO_ACES):
-        if any(n >= 2 ** s[1] for n in channels):
-            return 6
+        number = first_refusal(s, channels)
+        if number:
+            return number
         scenes = [table[s][n] for n in channels]
         return scenes if conversion == PIXEL_TO_SCENE else aces(s, *scenes)
     if conversion == SCENE_TO_PIXEL:
         if any(not -LIMIT <= x <= LIMIT for x in channels):
             return 7
-        return [nearest(table[s], x) for x in channels]
+        return [nearest(table, s, x) for x in channels]
     return pixel_of(table, s, channels) or 10
 
 
@@ -102,7 +111,7 @@ def convert(table, conversion, data, output):
     written = []
     for k, (curve, width, ei, *channels) in enumerate(READ[conversion].iter_unpack(data)):
         s = curve, width, ei
-        made = refusal(*s, 0) or one(table, conversion, s, channels)
+        made = setting_refusal(*s) or one(table, conversion, s, channels)
         if isinstance(made, int):
             return f"refused {made} {k}", output
         written.append(WRITTEN[conversion].pack(*s, *made))

@@ -3,25 +3,28 @@
 of each output strip to the rules of 01 (rules.py)."""
 import random, subprocess, sys, time
 
+from decoded import codes_of
 from rules import ACES_TO_PIXEL, LIMIT, PIXEL, PIXEL_TO_ACES, PIXEL_TO_SCENE, READ, SCENE_TO_PIXEL, SETTINGS, WRITTEN, aces, convert, numbers
 
-CHOSEN = [s for s in SETTINGS if s[1] < 16] + [(3, 16, 160), (3, 16, 800), (3, 16, 1600), (4, 16, 0)]
-INVALID = [(2, 12, 800), (5, 12, 0), (0, 0, 0), (3, 14, 800), (4, 10, 0), (3, 12, 2000), (3, 16, 0), (4, 12, 800), (4, 16, 65535)]
+CHOSEN = [s for s in SETTINGS if s[1] != 16] + [(3, 16, 160), (3, 16, 800), (3, 16, 1600), (4, 16, 0)]
+INVALID = [(2, 12, 800), (5, 12, 0), (0, 0, 0), (3, 14, 800), (4, 10, 0), (3, 12, 2000), (3, 16, 0), (4, 12, 800), (4, 16, 65535), (3, 140, 800), (4, 140, 800)]
 ENDS = (-2 ** 63, -2 ** 63 + 1, 2 ** 63 - 1, -2 ** 40 - 1, 2 ** 40 + 1, 2 ** 34, -2 ** 34, 0)
 
 
 def codes(pick, s):
-    top = 2 ** s[1] - 1
-    return [pick.choice((0, top, pick.randrange(top + 1), pick.randrange(top + 1))) for _ in range(3)]
+    known = codes_of(s)
+    return [pick.choice((known[0], known[-1], pick.choice(known), pick.choice(known))) for _ in range(3)]
 
 
-def scene(pick, ys):
+def scene(pick, ys, s):
     """a scene number worth trying under a setting whose numbers are ys"""
-    n = pick.randrange(len(ys) - 1)
-    middle = ys[n] + ys[n + 1]
+    known = codes_of(s)
+    k = pick.randrange(len(known) - 1)
+    least, most, one, two = (ys[n] for n in (known[0], known[-1], known[k], known[k + 1]))
+    middle = one + two
     return pick.choice((
-        ys[n], ys[0] - pick.randrange(9), ys[-1] + pick.randrange(9), middle // 2, (middle + 1) // 2, middle // 2 + 1, -LIMIT, LIMIT,
-        pick.randrange(-LIMIT, LIMIT + 1), pick.randrange(ys[0], ys[-1] + 1),
+        one, least - pick.randrange(9), most + pick.randrange(9), middle // 2, (middle + 1) // 2, middle // 2 + 1, -LIMIT, LIMIT,
+        pick.randrange(-LIMIT, LIMIT + 1), pick.randrange(least, most + 1),
     ))
 
 
@@ -37,7 +40,7 @@ def triple(pick, ys, s):
 def channels(pick, ys, s, conversion):
     if READ[conversion] is PIXEL:
         return codes(pick, s)
-    return triple(pick, ys, s) if conversion == ACES_TO_PIXEL else [scene(pick, ys) for _ in range(3)]
+    return triple(pick, ys, s) if conversion == ACES_TO_PIXEL else [scene(pick, ys, s) for _ in range(3)]
 
 
 def strip(pick, table, conversion):
@@ -76,7 +79,7 @@ def damage(pick, conversion, data):
                 data[k:k + 4] = PIXEL.pack(*pick.choice(INVALID), 0, 0, 0)[:4]
             else:
                 high = (size - 4) // 3 * pick.randrange(1, 4) + 3  # the highest byte of a channel
-                data[k + high] = pick.randrange(256)
+                data[k + high] = pick.choice((0, pick.randrange(256)))
     return bytes(data)
 
 
@@ -87,6 +90,23 @@ def jobs(pick, table, conversions, count):
         data = noise(pick, table, c) if pick.randrange(8) == 0 else damage(pick, c, strip(pick, table, c))
         need = len(data) // READ[c].size * WRITTEN[c].size
         yield c, data, pick.randbytes(max(0, need + pick.choice((0, 0, 0, 1, 50, -1, -20))))
+
+
+def ends(s):
+    """pixels at the ends of a setting's codes, which pass; then with a code beyond an end in each channel, alone and beside one beyond the other end"""
+    first, top = codes_of(s)[0], codes_of(s)[-1]
+    below, above = max(first - 1, 0), min(top + 1, 65535)
+    yield first, top, first
+    for one, other in (below, above), (above, below):
+        yield from ((one, first, top), (first, one, top), (first, top, one), (one, other, top), (one, top, other), (top, one, other))
+
+
+def end_jobs(table):
+    """the same as strips to convert, each after a record that passes"""
+    for s in table:
+        for codes in ends(s):
+            for c in PIXEL_TO_SCENE, PIXEL_TO_ACES:
+                yield c, PIXEL.pack(*s, *next(ends(s))) + PIXEL.pack(*s, *codes), bytes(2 * WRITTEN[c].size)
 
 
 def run(command, todo):
@@ -130,9 +150,9 @@ def main():
     begun = time.time()
     pick = random.Random(int(sys.argv[2]) if len(sys.argv) > 2 else 1)
     table = {s: numbers(s) for s in CHOSEN}
-    todo = [(0, bytes(11), bytes(100)), (0, b"", b""), (1, b"", b""), *jobs(pick, table, range(4), 4000)]
+    todo = [(0, bytes(11), bytes(100)), (0, b"", b""), (1, b"", b""), *end_jobs(table), *jobs(pick, table, range(4), 4000)]
     seen, done = hold([sys.argv[1]], table, todo)
-    assert all(f"refused {n}" in seen for n in (*range(1, 8), 10)), seen
+    assert all(f"refused {n}" in seen for n in (*range(1, 8), 10, 11)), seen
     print(f"strips: {len(todo)} strips are converted or refused as the rules say, every byte of the outputs too: {seen}")
     for name, there, back in ("scene", PIXEL_TO_SCENE, SCENE_TO_PIXEL), ("ACES", PIXEL_TO_ACES, ACES_TO_PIXEL):
         strips, records = returned([sys.argv[1]], done, there, back)

@@ -4,7 +4,7 @@ random pixels of all settings, the same with a channel some units off, random nu
 hold each answer to the rules of 01 (rules.py), which search the pixels for one that gives the numbers."""
 import random, subprocess, sys, time
 
-from decoded import refusal
+from decoded import codes_of, setting_refusal
 from rules import NUMBERS, SETTINGS, aces, numbers, pixel_of
 
 EACH = 3000  # pixels of each setting
@@ -16,9 +16,10 @@ SETTING_BYTES = [(c, w, e) for c in (0, 2, 3, 4, 5, 255) for w in (0, 10, 12, 16
 def records(pick, table):
     """records, some of which a pixel gives"""
     for s in SETTINGS:
-        ys, top = table[s], 2 ** s[1] - 1
+        ys, codes = table[s], codes_of(s)
+        ends = codes[0], codes[1], codes[-2], codes[-1]
         for _ in range(EACH):
-            triple = aces(s, *(ys[pick.choice((pick.randint(0, top), pick.choice((0, 1, top - 1, top))))] for _ in range(3)))
+            triple = aces(s, *(ys[pick.choice((pick.choice(codes), pick.choice(ends)))] for _ in range(3)))
             yield s, triple
             i = pick.randrange(3)
             yield s, [x + pick.choice((-1, 1)) * pick.choice(OFF) * (i == j) for j, x in enumerate(triple)]
@@ -41,7 +42,7 @@ def main():
     assert len(out) == len(asked) + 1 and not out.pop(), len(out)
     seen = {}
     for line, (s, triple) in zip(out, asked):
-        number = refusal(*s, 0)
+        number = setting_refusal(*s)
         found = None if number else pixel_of(table, s, triple)
         want = " ".join(map(str, found)) if found else f"refused {number or 10}"
         assert line == want, (s, triple, line, want)
