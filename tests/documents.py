@@ -500,9 +500,9 @@ def unseen(sources, texts, papers):
 def main():
     sources, texts, papers = Sources(), {d: (ROOT / d).read_text() for d in DOCUMENTS}, []
     if sys.argv[1:]:
-        papers = [" ".join(p.read_text().split()) for p in sorted(Path(sys.argv[-1]).glob("0[01]-*.md"))]
-        if sys.argv[1:-1] != ["--papers"] or len(papers) != 2:
-            sys.exit("documents.py [--papers FOLDER], where the folder holds 00-*.md and 01-*.md")
+        papers = [" ".join(p.read_text().split()) for p in sorted(Path(sys.argv[-1]).glob("0[012]-*.md"))]
+        if sys.argv[1:-1] != ["--papers"] or len(papers) != 3:
+            sys.exit("documents.py [--papers FOLDER], where the folder holds 00-*.md, 01-*.md and 02-*.md")
     wrong = [*unseen(sources, texts, papers), *complaints(sources, texts), *quoted(texts, papers)]
     print("\n".join(wrong + [f"documents: {len(wrong)} wrong"]))
     sys.exit(1 if wrong else 0)
