@@ -90,7 +90,10 @@ pub fn code_at(s: Setting, i: Step) -> Code
     requires { ⌜ i .0 ≤ lastOf s ⌝ }
     ensures { λ r. ⌜ r .0 ≡ codeAt s (i .0) ⌝ }
 {
-    Code(first_code(s).0 + i.0 as u16)
+    let first = first_code(s).0;
+    let step = i.0 as u16;
+    let code = first + step;
+    Code(code)
 }
 
 // The step of a code that passes its check.
@@ -99,7 +102,10 @@ pub fn step_of(s: Setting, n: Code) -> Step
     requires { ⌜ codeCheck s (n .0) ≡ Passed ⌝ }
     ensures { λ r. ⌜ r .0 ≡ stepOf s (n .0) ⌝ }
 {
-    Step(n.0 as u64 - first_code(s).0 as u64)
+    let first = first_code(s).0 as u64;
+    let code = n.0 as u64;
+    let step = code - first;
+    Step(step)
 }
 
 // Refusals 11 and 6, of a code beside the first and the top code.

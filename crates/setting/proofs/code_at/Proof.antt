@@ -7,16 +7,16 @@ use Rattle.rules.proofs.Codes.{last-small, code-small}
 use Rattle.setting.proofs.code_at.Statement.{statement}
 use Rattle.setting.proofs.code_at.Tie as tie
 
-cast-t4 : tie.Need-cast-t4
-cast-t4 c = omega (arith, last-small (c .before .before .args .s) (c .before .before .pre .0))
+cast-step : tie.Need-cast-step
+cast-step c = let k = c .before .before in omega (arith, last-small (k .args .s) (k .pre .0), k .pre .1)
 
-add-t5 : tie.Need-add-t5
+add-code : tie.Need-add-code
 unfolding codesOf
-add-t5 c = let k = c .before .before in rw (k .first-code .ensures) (omega (arith, code-small (k .before .args .s) (k .before .pre .0) _ (k .before .pre .1)))
+add-code c = let k = c .before in rw (k .first-code .ensures) (omega (arith, code-small (k .before .args .s) (k .before .pre .0) _ (k .before .pre .1)))
 
 returns : tie.Need-returns
 unfolding codesOf
-returns c = rw (c .before .before .first-code .ensures) (omega arith)
+returns c = rw (c .before .first-code .ensures) (omega arith)
 
 pub code-at-spec : {M : Type 1} → statement M
-code-at-spec = tie.close (tie.spec (λ c κs. search needs) cast-t4 add-t5 returns)
+code-at-spec = tie.close (tie.spec (λ c κs. search needs) cast-step add-code returns)
