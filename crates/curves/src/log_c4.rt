@@ -6,7 +6,7 @@ ghost use Rattle.rules.specs.Setting.{widthsOf, eisOf};
 ghost use Rattle.curves.specs.LogC4.{IsLogC4};
 use super::lists;
 
-// With t = n / top the exact value is (2^P - less) * times / over, where
+// Of a signal t the exact value is (2^P - less) * times / over, where
 // P = begin + stops * (white * t - black) / range.
 pub struct LogC4 {
     pub begin: u64,

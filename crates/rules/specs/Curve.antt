@@ -63,7 +63,7 @@ abbrev pub base : Curve → ℕ
 base logC4 = 2
 base (logC k) = 10
 
--- "P = 6 + 14 · (1023·n - 95·top) / (928·top)", where t is n / top; "(t - d) / c"
+-- "P = 6 + 14 · (1023·n - 95·top) / (928·top)", where the signal t is n / top; "(t - d) / c"
 abbrev pub exponent : Curve → Fraction → Fraction
 exponent logC4 t = whole 6 +ℚ whole 14 *ℚ (whole 1023 *ℚ t -ℚ whole 95) /ℚ whole 928
 exponent (logC k) t = (t -ℚ millionths (k .d)) /ℚ millionths (k .c)

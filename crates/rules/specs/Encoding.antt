@@ -20,7 +20,7 @@ abbrev pub distance : (number : ℕ → ℤ) (x : ℤ) (i : ℕ) → ℕ
 distance number x i = natAbs (x -ℤ number i)
 
 -- "the code whose decoded number is nearest; of two equally near, the lower. Below code 0 that is 0, above the top code it is the top.": its
--- step, from 0 to last
+-- step, from 0 to last. (02, item 1, of width 140: "Encoding clips to 256 and 3760, which stand for 0 and top in its bounds.")
 pub record IsNearest (number : ℕ → ℤ) (last : ℕ) (x : ℤ) (i : ℕ) : Type 0 where
   pub in-range : i ≤ last
   pub nearest : (j : ℕ) → j ≤ last → distance number x i ≤ distance number x j
