@@ -24,19 +24,22 @@ CONSTANTS = {  # EI: cut b c d e f
     1280: "0.012235 0.043137 0.240810 0.386590 5.229121 0.092819",
     1600: "0.013047 0.038625 0.237781 0.387093 5.163350 0.092824",
 }
-WIDTHS = {  # curve: the codes of each of its widths
-    3: {10: range(2 ** 10), 12: range(2 ** 12), 16: range(2 ** 16)},
-    4: {12: range(2 ** 12), 16: range(2 ** 16), 140: range(256, 3761)},
-}
+WIDTHS = {3: (10, 12, 16), 4: (12, 16, 140)}  # of each curve
+LEGAL = {140: range(256, 3761)}  # the codes of a width that are not all of its bits
 EIS = {3: tuple(CONSTANTS), 4: (0,)}
 SETTINGS = [(curve, width, ei) for curve in WIDTHS for width in WIDTHS[curve] for ei in EIS[curve]]
 COUNT = 850353  # codes of all settings
 LISTED = {(4, 140, 0): {256: -302946, 581: -581, 1231: 3014569, 3760: 7881936077}}  # some codes of a setting and their numbers
 
 
+def top_code(width):
+    """02, item 2: two to the width, less one, for a width from 1 to 16, and 0 for any other number"""
+    return 2 ** width - 1 if 1 <= width <= 16 else 0
+
+
 def codes_of(s):
     """the codes of a setting, from the first to the top code"""
-    return WIDTHS[s[0]][s[1]]
+    return LEGAL.get(s[1], range(top_code(s[1]) + 1))
 
 
 def number(x):

@@ -5,6 +5,7 @@
  *   driver strip CONVERSION FILE        a strip into an output of just its need: the answer's line, then the output's bytes
  *   driver records CONVERSION FILE      each record as a strip of its own: a line for each answer
  *   driver time CONVERSION FILE         nanoseconds a record, the least of several conversions of the strip
+ *   driver tops                         the top code of each width byte from 0 to 255, a line each
  *
  * The answer's line is `done` and the count of records, or `refused`, the refusal's number and the record's index. */
 #include <inttypes.h>
@@ -162,14 +163,24 @@ static void measure(const struct conversion *c, struct bytes in)
     printf("%.1f\n", best / at);
 }
 
+static void tops(void)
+{
+    for (int width = 0; width <= UINT8_MAX; width++)
+        printf("%" PRIu16 "\n", ropeinstant_top_code(width));
+}
+
 int main(int argc, char **argv)
 {
+    if (argc == 2 && strcmp(argv[1], "tops") == 0) {
+        tops();
+        return 0;
+    }
     if (argc == 2 && strcmp(argv[1], "jobs") == 0) {
         jobs();
         return 0;
     }
     if (argc != 4)
-        fail("usage: driver jobs | strip CONVERSION FILE | records CONVERSION FILE | time CONVERSION FILE");
+        fail("usage: driver jobs | tops | strip CONVERSION FILE | records CONVERSION FILE | time CONVERSION FILE");
     const struct conversion *c = named(argv[2]);
     struct bytes in = contents(argv[3]);
     if (strcmp(argv[1], "strip") == 0)

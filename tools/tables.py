@@ -91,8 +91,12 @@ def progression(count, first, ratio, t, c):
     return out
 
 
+def top_code(width):
+    return 2 ** width - 1 if 1 <= width <= 16 else 0
+
+
 def last_step(width):
-    return 3504 if width == LEGAL else 2 ** width - 1
+    return 3504 if width == LEGAL else top_code(width)
 
 
 def table(curve, width, front, first, ratio):

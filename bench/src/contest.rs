@@ -14,6 +14,12 @@ extern "C" {
     fn clock_gettime(clock: i32, time: *mut Timespec) -> i32;
     fn ropeinstant_pixel_to_aces(input: *const u8, input_len: usize, output: *mut u8, output_len: usize, at: *mut u64) -> u32;
     fn ropeinstant_aces_to_pixel(input: *const u8, input_len: usize, output: *mut u8, output_len: usize, at: *mut u64) -> u32;
+    fn ropeinstant_top_code(width: u8) -> u16;
+}
+
+/// The top code of a width in bits.
+pub fn top_code(bits: u8) -> u16 {
+    unsafe { ropeinstant_top_code(bits) }
 }
 
 pub const LINE: usize = 1024; // pixels

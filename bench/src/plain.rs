@@ -1,5 +1,6 @@
 //! The same conversions as a plain program would do them, with f64, powf and log: the same records in and out, the same checks of settings
 //! and codes. It is not exact, and its way back gives the nearest codes, where the exact one refuses what no pixel has.
+use crate::contest::top_code;
 use std::convert::TryInto;
 
 const UNIT: f64 = 16777216.0; // units in 1
@@ -42,7 +43,7 @@ impl Codes {
     pub fn of(width: u8) -> Codes {
         match width {
             140 => Codes { first: 256, span: 3504.0 },
-            bits => Codes { first: 0, span: f64::from((1_u32 << bits) - 1) },
+            bits => Codes { first: 0, span: f64::from(top_code(bits)) },
         }
     }
 

@@ -77,7 +77,7 @@ fn reel_of_all() -> Vec<u8> {
 
 fn pixel(setting: &Setting, k: usize, state: &mut u64, reel: &mut Vec<u8>) {
     let width = setting.width().expect("a setting of the table");
-    let last = u64::from((width.highest - width.lowest) / width.step);
+    let last = u64::from((width.highest() - width.lowest) / width.step);
     reel.extend(setting.bytes());
     for _ in CHANNELS {
         *state = state.wrapping_mul(6364136223846793005).wrapping_add(1442695040888963407);

@@ -69,7 +69,7 @@ fn curves() -> String {
 }
 
 fn legal(width: &Width) -> String {
-    format!("Width {} is the legal range of 12 bits: the codes {} to {}.\n", width.byte, width.lowest, width.highest)
+    format!("Width {} is the legal range of 12 bits: the codes {} to {}.\n", width.byte, width.lowest, width.highest())
 }
 
 fn refusals() -> String {

@@ -16,6 +16,7 @@ extern "C" {
     fn ropeinstant_scene_to_pixel(input: *const u8, input_len: usize, output: *mut u8, output_len: usize, at: *mut u64) -> u32;
     fn ropeinstant_pixel_to_aces(input: *const u8, input_len: usize, output: *mut u8, output_len: usize, at: *mut u64) -> u32;
     fn ropeinstant_aces_to_pixel(input: *const u8, input_len: usize, output: *mut u8, output_len: usize, at: *mut u64) -> u32;
+    fn ropeinstant_top_code(width: u8) -> u16;
 }
 
 pub fn pixel_to_scene(input: &[u8], output: &mut [u8]) -> Answer {
@@ -32,6 +33,12 @@ pub fn pixel_to_aces(input: &[u8], output: &mut [u8]) -> Answer {
 
 pub fn aces_to_pixel(input: &[u8], output: &mut [u8]) -> Answer {
     call(ropeinstant_aces_to_pixel, input, output)
+}
+
+/// The top code of a width of 1 to 16 bits; 0 for any other number.
+pub fn top_code(width: u8) -> u16 {
+    // It takes any number, and nothing is lent.
+    unsafe { ropeinstant_top_code(width) }
 }
 
 fn call(function: Function, input: &[u8], output: &mut [u8]) -> Answer {
@@ -74,6 +81,12 @@ mod tests {
         assert_eq!(kinds::SCENE.numbers(&scene)[0], -213758);
         assert_eq!(scene_to_pixel(&scene, &mut pixel), Ok(1));
         assert_eq!(pixel, PIXEL);
+    }
+
+    #[test]
+    fn top_codes() {
+        assert_eq!([1, 10, 12, 16].map(top_code), [1, 1023, 4095, 65535]);
+        assert_eq!([0, 17, 32, 140, 255].map(top_code), [0; 5]);
     }
 
     #[test]

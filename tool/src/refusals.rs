@@ -85,7 +85,7 @@ fn code_below_first(kind: &Kind, setting: &Setting, record: &[u8]) -> String {
 }
 
 fn code_above_top(kind: &Kind, setting: &Setting, record: &[u8]) -> String {
-    let top = setting.width().map_or(u16::MAX, |width| width.highest).into();
+    let top = setting.width().map_or(u16::MAX, |width| width.highest()).into();
     match CHANNELS.iter().zip(kind.numbers(record)).find(|(_, code)| *code > top) {
         Some((channel, code)) => format!("{} code {} is above {}", channel, code, top),
         None => "a code is above its top".to_string(),

@@ -1,13 +1,20 @@
 //! The settings: the one table of the curves with their widths, codes and EI values, and a setting as a record holds it. The library judges
 //! records; this table is for words, the help and the demo.
+use crate::library;
 use std::fmt;
 
 /// A width's byte, and its codes: from the lowest to the highest by a step.
 pub struct Width {
     pub byte: u8,
     pub lowest: u16,
-    pub highest: u16,
+    highest: Option<u16>, // None: the top code of as many bits as the byte says
     pub step: u16,
+}
+
+impl Width {
+    pub fn highest(&self) -> u16 {
+        self.highest.unwrap_or_else(|| library::top_code(self.byte))
+    }
 }
 
 pub struct Curve {
@@ -19,11 +26,11 @@ pub struct Curve {
 
 /// The full range of a width in bits.
 const fn full(bits: u8) -> Width {
-    Width { byte: bits, lowest: 0, highest: ((1_u32 << bits) - 1) as u16, step: 1 }
+    Width { byte: bits, lowest: 0, highest: None, step: 1 }
 }
 
 /// The legal range of 12 bits, as recorders write it.
-const LEGAL: Width = Width { byte: 140, lowest: 256, highest: 3760, step: 1 };
+const LEGAL: Width = Width { byte: 140, lowest: 256, highest: Some(3760), step: 1 };
 
 pub const CURVES: [Curve; 2] = [
     Curve {

@@ -10,7 +10,7 @@ use Rattle.rules.specs.declared.CurveName.{CurveName}
 use Rattle.rules.specs.declared.CurveName.the-variants.{LogC3, LogC4, Unknown}
 use Rattle.rules.specs.Fraction.{Fraction}
 use Rattle.rules.specs.Curve.{Curve, logC4, logC, Row, logC3Rows, base, factor}
-use Rattle.rules.specs.Setting.{named}
+use Rattle.rules.specs.Setting.{named, lastStep}
 use Rattle.curves.specs.LogC3.{rowOf}
 use Rattle.power.specs.Progression.{squareDown, progression}
 use Rattle.curve_table.specs.Seeds.{AtWidth, at, Seed, seed, logC4Seed, logC3Seeds}
@@ -20,9 +20,9 @@ abbrev pub forWidth : {A : Type 0} → A → (width : ℕ) → List (AtWidth A) 
 forWidth default width [] = default
 forWidth default width (x ∷ xs) = choose (eqb width (x .width)) (x .value) (forWidth default width xs)
 
--- how many entries the first digit has: the last step / 1024 + 1
+-- how many entries the first digit has
 abbrev pub firstDigits : (width : ℕ) → ℕ
-firstDigits width = forWidth 0 width (at 10 1 ∷ at 12 4 ∷ at 16 64 ∷ at 140 4 ∷ [])
+firstDigits width = lastStep width / 1024 + 1
 
 -- the middle digit's entries stand at the scale 2 ^ 63 over this, so that each fits a word; the first digit's entries make up for it
 abbrev pub shiftOf : (width : ℕ) → ℕ

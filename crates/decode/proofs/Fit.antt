@@ -61,7 +61,7 @@ over-fits (logC c) last g t toe n h = twice (c .e * last) (toe .divisor)
 pub fits : (s : Setting) → Valid s → (i : ℕ) → i ≤ lastOf s → Fits (decoderOf (scaleOf s)) (tableOf s) i
 fits s v i h =
     record {
-      step = lt-of-le-of-lt h (last-small s v);
+      step = lt-of-le-of-lt h (last-small s);
       power = power-fits (passed s v) i;
       toe = toe-fits (passed s v) i h;
       over = λ g. over-fits (curveOf s) (lastOf s) (gapOf s) (tableOf s) (passed s v .toe) i g;

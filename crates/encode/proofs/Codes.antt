@@ -51,7 +51,7 @@ step-by s x = ap (λ (number : ℕ → ℤ). closest number x (lastOf s)) (numbe
 
 module _ (s : Setting) (v : Valid s) where
   pub rising : Rising (decoderOf (scaleOf s)) (tableOf s) (lastOf s) (gapOf s)
-  rising = record { small = last-small s v; fits = fits s v; rises = raw-rises s v; apart = raw-apart s v }
+  rising = record { small = last-small s; fits = fits s v; rises = raw-rises s v; apart = raw-apart s v }
 
   pub step-is : (x : ℤ) (n : ℕ) → Within (raw s) (lastOf s) x n → n ≡ encodedStep s x
   step-is x n i =

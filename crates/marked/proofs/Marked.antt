@@ -16,7 +16,7 @@ use Rattle.whole.proofs.Near.{near-test}
 use Rattle.whole.proofs.Tidy.{tidy}
 use Rattle.rules.specs.Fraction.{Fraction, whole, ratio, integer, _+ℚ_, _-ℚ_, _*ℚ_, VersusPower, nearest, Less, Greater}
 use Rattle.rules.specs.declared.Setting.{Setting}
-use Rattle.rules.specs.Setting.{settingCheck, codesOf, curveOf, lastOf, codeAt, stepOf, codeCheck, Valid}
+use Rattle.rules.specs.Setting.{settingCheck, topOf, codesOf, curveOf, lastOf, codeAt, stepOf, codeCheck, Valid}
 use Rattle.rules.specs.Curve.{logC4, exponent, toeValue}
 use Rattle.rules.specs.Exact.{Scale, signal, scaleOf, powerFor, VersusPart}
 use Rattle.rules.specs.Decoding.{Decodes, DecodesCode, DecodesPart, tolerance, unit}
@@ -43,7 +43,7 @@ use Rattle.marked.specs.Marked.{Marked, setting, Allowed, limit, nextTri
 use Rattle.rules.specs.Pixels.{pixel, acesOf}
 
 abbrev curve4 : Scale
-curve4 = record { curve = logC4; last = 4095 }
+curve4 = record { curve = logC4; last = topOf 12 }
 
 -- the exponent of code 4095 is 20
 abbrev exponent-4095 : Fraction
@@ -80,7 +80,7 @@ abbrev s800 : Setting
 s800 = setting 3 12 800
 
 abbrev scale800 : Scale
-scale800 = record { curve = curveOf s800; last = 4095 }
+scale800 = record { curve = curveOf s800; last = topOf 12 }
 
 -- the number of a code in the toe
 toe-number : (n : ℕ) (y : ℤ) → DecodesPart tolerance scale800 n y true → y ≡ nearest (toeValue (curveOf s800) (signal scale800 (whole n)) *ℚ whole (2 ^ 24))

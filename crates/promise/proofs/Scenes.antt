@@ -94,7 +94,7 @@ pixels-decoded pixels output n a room =
 -- ---- encoding
 module _ (s : Setting) (v : Valid s) (bits : ℕ) (e : numberCheck s bits ≡ Passed) where
   code-fits : codeBits s bits < 256 ^ codeBytes
-  code-fits = code-small s v (encodedStep s (ofBits numberBytes bits)) (encoded-nearest s (ofBits numberBytes bits) .in-range)
+  code-fits = code-small s (encodedStep s (ofBits numberBytes bits)) (encoded-nearest s (ofBits numberBytes bits) .in-range)
 
   code-encoded : IsEncoded s bits (codeBits s bits)
   code-encoded = record { step = encodedStep s (ofBits numberBytes bits); code = refl; nearest = encoded-nearest s (ofBits numberBytes bits); two-thirds = encoded-two-thirds s v (ofBits numberBytes bits) }

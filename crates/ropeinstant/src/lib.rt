@@ -1,8 +1,10 @@
-// The conversions of strips and of float pixels for C. A function over strips lends them to a conversion of `strip` and gives the answer as a
-// number and a place; one over a float pixel gives the number, and writes where it is 0. include/ropeinstant.h declares them.
+// The conversions of strips and of float pixels for C, and the top code of a width. A function over strips lends them to a conversion of `strip`
+// and gives the answer as a number and a place; one over a float pixel gives the number, and writes where it is 0. include/ropeinstant.h
+// declares them.
 ghost use mathlib.Core.Path.{_≡_};
 ghost use Rattle.record_conversion.specs.Conversions.{pixelToScene, sceneToPixel, pixelToAces, acesToPixel};
 ghost use Rattle.rules.specs.Result.{stripResult};
+ghost use Rattle.rules.specs.Setting.{topOf};
 ghost use Rattle.strip.specs.Lent.{LentBytes};
 ghost use Rattle.ropeinstant.specs.Call.{place, Gives};
 ghost use Rattle.ropeinstant.specs.Floats.{decoding, encoding, GivesValues};
@@ -129,4 +131,12 @@ pub extern "C" fn ropeinstant_floats_to_codes(
         }
         FloatEncoding::Refused(number) => number as u32,
     }
+}
+
+// The top code of a width of 1 to 16 bits, and 0 for any other number.
+#[no_mangle]
+pub extern "C" fn ropeinstant_top_code(width: u8) -> u16
+    ensures { λ n. ⌜ n ≡ topOf width ⌝ }
+{
+    setting::top_code(width).0
 }

@@ -1,18 +1,21 @@
 -- The codes of a setting and their steps: a code that passes is the code of its step, and a step's code passes. Only here is it seen which
 -- codes a setting has.
 -- Assumes nothing.
+use mathlib.Core.Bool.{Bool, true, false}
 use mathlib.Core.Path.{_≡_}
 use Prim.Native.Nat.{ℕ, _+_, _-_, _*_, _/_, _^_, _≤_, _<_}
 use native.Mathlib.Nat.{lt-of-le-of-lt}
 use native.Mathlib.Omega.{arith}
 use borrow.Author.Tests.{le-leb}
-use lib.Dec.{T, leb, ltb, leb→le, ltb→lt}
+use lib.Dec.{T, eqb, leb, leb→le, lit<}
 use Rattle.rules.specs.declared.Setting.{Setting}
 use Rattle.rules.specs.declared.Check.the-variants.{Passed}
 use Rattle.rules.specs.declared.Refusal.the-variants.{CodeAboveTop, CodeBelowFirst}
+use Rattle.rules.specs.Choice.{choose}
 use Rattle.rules.specs.Refusal.{refuseUnless}
-use Rattle.rules.specs.Setting.{codesOf, lastOf, codeAt, stepOf, codeCheck, Valid}
-use Rattle.rules.proofs.Settings.{passed-only, both, forSettings, for-valid}
+use Rattle.rules.specs.Setting.{topOf, codesOf, lastOf, codeAt, stepOf, codeCheck}
+use Rattle.rules.proofs.Settings.{passed-only, both}
+use Rattle.rules.proofs.TopCode.{top-fits}
 
 -- a code that passes is between the first code and the last
 pub bounds : (s : Setting) (n : ℕ) → codeCheck s n ≡ Passed → (codesOf s .first ≤ n) × (n ≤ codeAt s (lastOf s))
@@ -45,15 +48,18 @@ pub code-rises : (s : Setting) (i j : ℕ) → i < j → codeAt s i < codeAt s j
 unfolding codesOf
 code-rises s i j h = omega arith
 
--- ---- of a valid setting: a code fits two bytes, and so does a step
-top-small : (s : Setting) → Valid s → codeAt s (lastOf s) < 2 ^ 16
+-- ---- a code fits two bytes, and so does a step
+top-small : (s : Setting) → codeAt s (lastOf s) < 2 ^ 16
 unfolding codesOf
-top-small s v =
-    ltb→lt (codeAt s (lastOf s)) (2 ^ 16) (for-valid (λ c w e. ltb (codeAt (record { curve = c; width = w; ei = e }) (lastOf (record { curve = c; width = w; ei = e }))) (2 ^ 16)) tt s v)
+top-small s = go (eqb (s .width) 140)
+  where
+    go : (legal : Bool) → choose legal 256 0 + choose legal 3504 (topOf (s .width)) * 1 < 2 ^ 16
+    go true = lit< tt
+    go false = omega (arith, top-fits (s .width))
 
-pub code-small : (s : Setting) → Valid s → (i : ℕ) → i ≤ lastOf s → codeAt s i < 2 ^ 16
-code-small s v i h = lt-of-le-of-lt (bounds s (codeAt s i) (code-passes s i h) .1) (top-small s v)
+pub code-small : (s : Setting) (i : ℕ) → i ≤ lastOf s → codeAt s i < 2 ^ 16
+code-small s i h = lt-of-le-of-lt (bounds s (codeAt s i) (code-passes s i h) .1) (top-small s)
 
-pub last-small : (s : Setting) → Valid s → lastOf s < 2 ^ 16
+pub last-small : (s : Setting) → lastOf s < 2 ^ 16
 unfolding codesOf
-last-small s v = omega (arith, top-small s v)
+last-small s = omega (arith, top-small s)

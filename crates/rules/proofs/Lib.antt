@@ -1,6 +1,7 @@
 pub mod Values
 pub mod Nearest
 pub mod Settings
+pub mod TopCode
 pub mod Codes
 pub mod Records
 pub mod Closest

@@ -20,8 +20,11 @@ pub record IsPixel (s : Setting) (p : Pixel) : Type 0 where
   pub blue : codeCheck s (p .blue .0) ≡ Passed
 
 -- its checks: "red, green and blue (each channel's checks before the next channel)"
+abbrev pub eachCode : (ℕ → Check) → Pixel → Check
+eachCode check p = then (check (p .red .0)) (then (check (p .green .0)) (check (p .blue .0)))
+
 abbrev pub codesCheck : Setting → Pixel → Check
-codesCheck s p = then (codeCheck s (p .red .0)) (then (codeCheck s (p .green .0)) (codeCheck s (p .blue .0)))
+codesCheck s p = eachCode (codeCheck s) p
 
 -- three codes, three ACES numbers
 abbrev pub pixel : (r g b : ℕ) → Pixel

@@ -60,9 +60,9 @@ Valid s = settingCheck s ≡ Passed
 
 -- ---- the codes of a setting. They are numbered by steps from 0: all that is said of a curve is said of steps.
 
--- "The top code of width w is top = 2^w - 1"
-abbrev pub topOf : ℕ → ℕ
-topOf width = 2 ^ width - 1
+-- "The top code of width w is top = 2^w - 1"; 02, item 2: "for any width from 1 to 16 as two to the width, less one, and 0 for any other number"
+abbrev pub topOf : (width : ℕ) → ℕ
+topOf width = choose (leb 1 width) (choose (leb width 16) (2 ^ width - 1) 0) 0
 
 -- the first code, how far each code is from the one before it, and the last step
 pub record Codes : Type 0 where
@@ -70,7 +70,8 @@ pub record Codes : Type 0 where
   pub apart : ℕ
   pub last : ℕ
 
--- 02, item 1, of width 140: "the signal is (n - 256) / 3504 and the codes are 256 to 3760". Else the codes are those from 0 to the top code.
+-- 02, item 1, of width 140: "the signal is (n - 256) / 3504 and the codes are 256 to 3760". Of any other width the codes are those from 0 to the
+-- top code; item 2: "Widths 10, 12 and 16 take it from there".
 abbrev pub firstCode : (width : ℕ) → ℕ
 firstCode width = choose (eqb width 140) 256 0
 
@@ -90,6 +91,10 @@ codeAt s i = codesOf s .first + i * codesOf s .apart
 abbrev pub stepOf : Setting → (code : ℕ) → ℕ
 stepOf s n = (n - codesOf s .first) / codesOf s .apart
 
--- refusals 11 and 6, of a setting that passes its checks: a code below the first, and one above that of the last step ("code above top")
+-- refusals 11 and 6: a code below the first, and one above the last ("code above top")
+abbrev pub codeBetween : (first last : ℕ) → ℕ → Check
+codeBetween first last n = then (refuseUnless (leb first n) CodeBelowFirst) (refuseUnless (leb n last) CodeAboveTop)
+
+-- the same, of a setting that passes its checks
 abbrev pub codeCheck : Setting → ℕ → Check
-codeCheck s n = then (refuseUnless (leb (codesOf s .first) n) CodeBelowFirst) (refuseUnless (leb n (codeAt s (lastOf s))) CodeAboveTop)
+codeCheck s n = codeBetween (codesOf s .first) (codeAt s (lastOf s)) n

@@ -1,12 +1,11 @@
-// The checks of a setting and of a code, the steps of codes, and the numbers of the refusals.
+// The checks of a setting and of a code, the top code of a width, the steps of codes, and the numbers of the refusals.
 ghost use mathlib.Core.Path.{_≡_};
 ghost use Rattle.rules.specs.Refusal.{numberOf, then, refuseUnless};
 ghost use Rattle.rules.specs.declared.Refusal.the-variants.{UnknownWidth, UnknownEi};
-ghost use Rattle.rules.specs.Pixels.{codesCheck};
+ghost use Rattle.rules.specs.Pixels.{eachCode, codesCheck};
 ghost use Prim.Native.Nat.{_≤_};
 ghost use Rattle.rules.specs.declared.Check.the-variants.{Passed};
-ghost use Rattle.rules.specs.Setting.{codesOf, lastOf, codeAt, stepOf, settingCheck, codeCheck, Valid};
-ghost use Rattle.setting.specs.Between.{between, between3};
+ghost use Rattle.rules.specs.Setting.{topOf, codesOf, lastOf, codeAt, stepOf, settingCheck, codeBetween, codeCheck, Valid};
 ghost use Rattle.setting.specs.Same.{sameSetting};
 use curves::log_c3::LogC3;
 use curves::log_c4::LogC4;
@@ -61,18 +60,27 @@ pub fn check_setting(s: Setting) -> Check
     }
 }
 
+// The top code of a width of 1 to 16 bits, two to the width, less one. 0 for any other number.
+pub fn top_code(width: u8) -> Code
+    ensures { λ r. ⌜ r .0 ≡ topOf width ⌝ }
+{
+    if width > 16 {
+        return Code(0);
+    }
+    let power = 1u32 << width;
+    let top = power - 1;
+    let code = top as u16;
+    Code(code)
+}
+
 // The last step of a setting.
 pub fn last_step(s: Setting) -> Step
-    requires { ⌜ Valid s ⌝ }
     ensures { λ r. ⌜ r .0 ≡ lastOf s ⌝ }
 {
-    let width = s.width;
-    match width {
-        10 => Step(1023),
-        12 => Step(4095),
-        140 => Step(3504),
-        _ => Step(65535),
+    if s.width == 140 {
+        return Step(3504);
     }
+    Step(top_code(s.width).0 as u64)
 }
 
 // The first code of a setting, that of step 0: 256 at width 140, else 0. Only that width is 128 or
@@ -110,7 +118,7 @@ pub fn step_of(s: Setting, n: Code) -> Step
 
 // Refusals 11 and 6, of a code beside the first and the top code.
 fn check_between(first: Code, top: Code, n: Code) -> Check
-    ensures { λ r. ⌜ r ≡ between (n .0) (first .0) (top .0) ⌝ }
+    ensures { λ r. ⌜ r ≡ codeBetween (first .0) (top .0) (n .0) ⌝ }
 {
     if n.0 < first.0 {
         return Check::Refused(Refusal::CodeBelowFirst);
@@ -132,7 +140,7 @@ pub fn check_code(s: Setting, n: Code) -> Check
 
 // The checks of a pixel's codes beside the first and the top code: the first code that is refused decides.
 fn check_three(first: Code, top: Code, p: Pixel) -> Check
-    ensures { λ r. ⌜ r ≡ between3 p (first .0) (top .0) ⌝ }
+    ensures { λ r. ⌜ r ≡ eachCode (codeBetween (first .0) (top .0)) p ⌝ }
 {
     let red = check_between(first, top, p.red);
     let Check::Passed = red else {

@@ -8,11 +8,11 @@ use Rattle.setting.proofs.code_at.Statement.{statement}
 use Rattle.setting.proofs.code_at.Tie as tie
 
 cast-step : tie.Need-cast-step
-cast-step c = let k = c .before .before in omega (arith, last-small (k .args .s) (k .pre .0), k .pre .1)
+cast-step c = let k = c .before .before in omega (arith, last-small (k .args .s), k .pre .1)
 
 add-code : tie.Need-add-code
 unfolding codesOf
-add-code c = let k = c .before in rw (k .first-code .ensures) (omega (arith, code-small (k .before .args .s) (k .before .pre .0) _ (k .before .pre .1)))
+add-code c = let k = c .before in rw (k .first-code .ensures) (omega (arith, code-small (k .before .args .s) _ (k .before .pre .1)))
 
 returns : tie.Need-returns
 unfolding codesOf

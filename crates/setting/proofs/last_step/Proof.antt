@@ -1,16 +1,18 @@
--- `last_step` meets its contract: a valid setting's width is one of four.
+-- `last_step` meets its contract: it has the two cases of the rules.
 -- Assumes nothing.
+use borrow.Author.Needs.{needs}
+use borrow.Author.Tests.{ne-eqb}
 use Rattle.rules.specs.Setting.{codesOf}
-use Rattle.setting.proofs.Widths.{last-width}
 use Rattle.setting.proofs.last_step.Statement.{statement}
 use Rattle.setting.proofs.last_step.Tie as tie
 
-pub last-step-spec : {M : Type 1} → statement M
+returns : tie.Need-returns
 unfolding codesOf
-last-step-spec =
-    tie.close
-    (tie.spec
-    (λ c. rw (c .match .keys1))
-    (λ c. rw (c .match .keys2))
-    (λ c. rw (c .match .keys3))
-    (λ c. rw (last-width (c .before .args .s) (c .before .pre) (c .match .rest .0 .0 .1) (c .match .rest .0 .1) (c .match .rest .1))))
+returns c = rw (c .if1 .taken)
+
+returns-2 : tie.Need-returns-2
+unfolding codesOf
+returns-2 c = rw (ne-eqb _ _ (c .before .before .if1 .left)) (c .before .top-code .ensures)
+
+pub last-step-spec : {M : Type 1} → statement M
+last-step-spec = tie.close (tie.spec returns (λ c κs. search needs) (λ c. search needs) returns-2)

@@ -1,0 +1,31 @@
+-- The top code of a width, with the width as a parameter: any number at all.
+-- Assumes nothing.
+use mathlib.Core.Bool.{Bool, true, false}
+use mathlib.Core.Path.{_≡_, refl, sym, subst}
+use Prim.Native.Nat.{ℕ, zero, suc, _-_, _^_, _≤_, _<_}
+use native.Mathlib.Nat.{lt-of-lt-of-le}
+use native.Mathlib.Omega.{arith}
+use borrow.Author.Tests.{le-leb, lt-leb, leb-true, leb-false}
+use lib.Dec.{leb, lit<}
+use lib.Pow.{pow-mono, pow-sub-lt}
+use Rattle.rules.specs.Setting.{topOf}
+
+-- of at most 16 bits it is two to the width, less one. (0 is no width, and two to the 0, less one, is 0 too.)
+pub top-of-bits : (w : ℕ) → w ≤ 16 → topOf w ≡ 2 ^ w - 1
+top-of-bits zero h = refl
+top-of-bits (suc w) h = rw (le-leb 1 (suc w) (omega arith), le-leb (suc w) 16 h)
+
+-- of any other number it is 0
+pub top-of-others : (w : ℕ) → 16 < w → topOf w ≡ 0
+top-of-others w h = rw (le-leb 1 w (omega arith), lt-leb w 16 h)
+
+-- it is a number of at most as many bits
+pub bits-fit : (w : ℕ) → w ≤ 16 → 2 ^ w - 1 < 2 ^ 16
+bits-fit w h = lt-of-lt-of-le (pow-sub-lt w (lit< tt)) (pow-mono h)
+
+pub top-fits : (w : ℕ) → topOf w < 2 ^ 16
+top-fits w = go (leb w 16) refl
+  where
+    go : (x : Bool) → leb w 16 ≡ x → topOf w < 2 ^ 16
+    go true e = subst (λ (n : ℕ). n < 2 ^ 16) (sym (top-of-bits w (leb-true w 16 e))) (bits-fit w (leb-true w 16 e))
+    go false e = subst (λ (n : ℕ). n < 2 ^ 16) (sym (top-of-others w (leb-false w 16 e))) (lit< tt)

@@ -1,0 +1,31 @@
+#!/usr/bin/env python3
+"""top_code.py DRIVER: have DRIVER (tests/driver.c, linked with the library) give the top code of every width byte, and hold each to the tests'
+own reading of 02, item 2. At every setting of full range that code must be decoded, and the next one, where there is one in two bytes, refused
+by 6."""
+import subprocess, sys
+
+from decoded import LEGAL, SETTINGS, codes_of, top_code
+from rules import PIXEL
+
+
+def told(*arguments, **more):
+    return subprocess.run([sys.argv[1], *arguments], stdout=subprocess.PIPE, check=True, **more).stdout.split()
+
+
+def main():
+    tops = [int(top) for top in told("tops")]
+    assert tops == [top_code(width) for width in range(256)], tops
+    assert [width for width, top in enumerate(tops) if top] == [*range(1, 17)], tops
+
+    full = [s for s in SETTINGS if s[1] not in LEGAL]
+    assert all(codes_of(s) == range(tops[s[1]] + 1) for s in full)
+    tried = [(s, code, 0 if code == tops[s[1]] else 6) for s in full for code in (tops[s[1]], tops[s[1]] + 1) if code < 2 ** 16]
+    out = told("records", "pixel-to-scene", "/dev/stdin", input=b"".join(PIXEL.pack(*s, code, code, code) for s, code, _ in tried))
+    answers = b" ".join(b"refused %d 0" % number if number else b"done 1" for *_, number in tried)
+    assert out == answers.split(), (out, answers)
+    refused = sum(number == 6 for *_, number in tried)
+    print(f"top_code: {len(tops)} width bytes have the top code of 02, item 2; it passes at {len(full)} settings, and the next is refused at {refused}")
+
+
+if __name__ == "__main__":
+    main()
