@@ -3,7 +3,8 @@ ghost use mathlib.Core.List.{[], _∷_};
 ghost use mathlib.Core.Path.{_≡_};
 ghost use Rattle.rules.specs.declared.Check.the-variants.{Passed};
 ghost use Rattle.rules.specs.Result.{Each, single};
-ghost use Rattle.rules.specs.Setting.{Valid};
+ghost use Rattle.rules.specs.Pixels.{pixel};
+ghost use Rattle.rules.specs.Setting.{lastOf, Valid};
 ghost use Rattle.rules.specs.Encoding.{sceneCheck};
 ghost use Rattle.decode.specs.Ready.{Ready};
 ghost use Rattle.encode.specs.Encoded.{encoded, encodedStep};
@@ -11,6 +12,7 @@ ghost use Rattle.encode.specs.Answer.{encodingResult, encodeResult, Enco
 use decode::decoder::Decoder;
 use rules::Check;
 use rules::Code;
+use rules::Pixel;
 use rules::Refusal;
 use rules::Scene;
 use rules::Setting;
@@ -40,9 +42,10 @@ pub fn check_scene(x: Scene) -> Check
     }
 }
 
-// The step of a scene number.
-fn nearest_step(s: Setting, d: Decoder, t: &[u64; 128], x: Scene) -> Step
+// The step of a scene number, of a setting with this last step.
+fn nearest_step(s: Setting, d: Decoder, t: &[u64; 128], last: Step, x: Scene) -> Step
     requires { ⌜ Ready s d (now t) ⌝ }
+    requires { ⌜ last .0 ≡ lastOf s ⌝ }
     requires { ⌜ sceneCheck (x .0) ≡ Passed ⌝ }
     ensures { λ r. ⌜ r .0 ≡ encodedStep s (x .0) ⌝ }
 {
@@ -50,8 +53,17 @@ fn nearest_step(s: Setting, d: Decoder, t: &[u64; 128], x: Scene) -> Step
     if number < -OFFSET {
         return Step(0);
     }
-    let last = setting::last_step(s);
     nearest_code::find(s, d, t, last, (number + OFFSET) as u64)
+}
+
+// The code of a scene number, of a setting with this last step.
+fn code_up_to(s: Setting, d: Decoder, t: &[u64; 128], last: Step, x: Scene) -> Code
+    requires { ⌜ Ready s d (now t) ⌝ }
+    requires { ⌜ last .0 ≡ lastOf s ⌝ }
+    requires { ⌜ sceneCheck (x .0) ≡ Passed ⌝ }
+    ensures { λ r. ⌜ r .0 ≡ encoded s (x .0) ⌝ }
+{
+    setting::code_at(s, nearest_step(s, d, t, last, x))
 }
 
 // The code of a scene number.
@@ -60,7 +72,30 @@ pub fn code_of(s: Setting, d: Decoder, t: &[u64; 128], x: Scene) -> Code
     requires { ⌜ sceneCheck (x .0) ≡ Passed ⌝ }
     ensures { λ r. ⌜ r .0 ≡ encoded s (x .0) ⌝ }
 {
-    setting::code_at(s, nearest_step(s, d, t, x))
+    code_up_to(s, d, t, setting::last_step(s), x)
+}
+
+// The pixel of three scene numbers, with the last step computed once.
+pub fn pixel_of(
+    s: Setting,
+    d: Decoder,
+    t: &[u64; 128],
+    red: Scene,
+    green: Scene,
+    blue: Scene,
+) -> Pixel
+    requires { ⌜ Ready s d (now t) ⌝ }
+    requires { ⌜ sceneCheck (red .0) ≡ Passed ⌝ }
+    requires { ⌜ sceneCheck (green .0) ≡ Passed ⌝ }
+    requires { ⌜ sceneCheck (blue .0) ≡ Passed ⌝ }
+    ensures { λ p. ⌜ p ≡ pixel (encoded s (red .0)) (encoded s (green .0)) (encoded s (blue .0)) ⌝ }
+{
+    let last = setting::last_step(s);
+    Pixel {
+        red: code_up_to(s, d, t, last, red),
+        green: code_up_to(s, d, t, last, green),
+        blue: code_up_to(s, d, t, last, blue),
+    }
 }
 
 fn encode_valid(s: Setting, x: Scene) -> Encoding

@@ -38,11 +38,7 @@ fn codes_of(s: Setting, red: Scene, green: Scene, blue: Scene) -> Pixel
 {
     let d = Decoder::new(s);
     let t = curve_table::table(s);
-    Pixel {
-        red: encode::code_of(s, d, &t, red),
-        green: encode::code_of(s, d, &t, green),
-        blue: encode::code_of(s, d, &t, blue),
-    }
+    encode::pixel_of(s, d, &t, red, green, blue)
 }
 
 fn encode_valid(s: Setting, f: FloatPixel) -> FloatEncoding

@@ -2,7 +2,7 @@
 -- codes a setting has.
 -- Assumes nothing.
 use mathlib.Core.Bool.{Bool, true, false}
-use mathlib.Core.Path.{_≡_}
+use mathlib.Core.Path.{_≡_, refl}
 use Prim.Native.Nat.{ℕ, _+_, _-_, _*_, _/_, _^_, _≤_, _<_}
 use native.Mathlib.Nat.{lt-of-le-of-lt}
 use native.Mathlib.Omega.{arith}
@@ -11,9 +11,8 @@ use lib.Dec.{T, eqb, leb, leb→le, lit<}
 use Rattle.rules.specs.declared.Setting.{Setting}
 use Rattle.rules.specs.declared.Check.the-variants.{Passed}
 use Rattle.rules.specs.declared.Refusal.the-variants.{CodeAboveTop, CodeBelowFirst}
-use Rattle.rules.specs.Choice.{choose}
 use Rattle.rules.specs.Refusal.{refuseUnless}
-use Rattle.rules.specs.Setting.{topOf, codesOf, lastOf, codeAt, stepOf, codeCheck}
+use Rattle.rules.specs.Setting.{codesOf, lastOf, codeAt, stepOf, codeCheck}
 use Rattle.rules.proofs.Settings.{passed-only, both}
 use Rattle.rules.proofs.TopCode.{top-fits}
 
@@ -51,11 +50,11 @@ code-rises s i j h = omega arith
 -- ---- a code fits two bytes, and so does a step
 top-small : (s : Setting) → codeAt s (lastOf s) < 2 ^ 16
 unfolding codesOf
-top-small s = go (eqb (s .width) 140)
+top-small s = go (eqb (s .width) 140) refl
   where
-    go : (legal : Bool) → choose legal 256 0 + choose legal 3504 (topOf (s .width)) * 1 < 2 ^ 16
-    go true = lit< tt
-    go false = omega (arith, top-fits (s .width))
+    go : (legal : Bool) → eqb (s .width) 140 ≡ legal → codeAt s (lastOf s) < 2 ^ 16
+    go true e = rw e (lit< tt)
+    go false e = rw e (omega (arith, top-fits (s .width)))
 
 pub code-small : (s : Setting) (i : ℕ) → i ≤ lastOf s → codeAt s i < 2 ^ 16
 code-small s i h = lt-of-le-of-lt (bounds s (codeAt s i) (code-passes s i h) .1) (top-small s)

@@ -1,25 +1,33 @@
 -- The top code of a width, with the width as a parameter: any number at all.
 -- Assumes nothing.
 use mathlib.Core.Bool.{Bool, true, false}
-use mathlib.Core.Path.{_≡_, refl, sym, subst}
+use mathlib.Core.Path.{_≡_, refl, sym, subst, _∙_}
 use Prim.Native.Nat.{ℕ, zero, suc, _-_, _^_, _≤_, _<_}
 use native.Mathlib.Nat.{lt-of-lt-of-le}
 use native.Mathlib.Omega.{arith}
 use borrow.Author.Tests.{le-leb, lt-leb, leb-true, leb-false}
 use lib.Dec.{leb, lit<}
 use lib.Pow.{pow-mono, pow-sub-lt}
+use Rattle.rules.specs.Choice.{choose}
 use Rattle.rules.specs.Setting.{topOf}
+
+-- what is chosen by the order of two numbers
+at-most : (m n a b : ℕ) → m ≤ n → choose (leb m n) a b ≡ a
+at-most m n a b h = rw (le-leb m n h)
+
+above : (m n a b : ℕ) → n < m → choose (leb m n) a b ≡ b
+above m n a b h = rw (lt-leb m n h)
 
 -- of at most 16 bits it is two to the width, less one. (0 is no width, and two to the 0, less one, is 0 too.)
 pub top-of-bits : (w : ℕ) → w ≤ 16 → topOf w ≡ 2 ^ w - 1
 top-of-bits zero h = refl
-top-of-bits (suc w) h = rw (le-leb 1 (suc w) (omega arith), le-leb (suc w) 16 h)
+top-of-bits (suc w) h = at-most 1 (suc w) _ _ (omega arith) ∙ at-most (suc w) _ _ _ (omega (arith, h))
 
 -- of any other number it is 0
 pub top-of-others : (w : ℕ) → 16 < w → topOf w ≡ 0
-top-of-others w h = rw (le-leb 1 w (omega arith), lt-leb w 16 h)
+top-of-others w h = at-most 1 w _ _ (omega arith) ∙ above w _ _ _ (omega (arith, h))
 
--- it is a number of at most as many bits
+-- so it fits two bytes
 pub bits-fit : (w : ℕ) → w ≤ 16 → 2 ^ w - 1 < 2 ^ 16
 bits-fit w h = lt-of-lt-of-le (pow-sub-lt w (lit< tt)) (pow-mono h)
 

@@ -75,11 +75,7 @@ fn candidate(s: Setting, d: Decoder, t: &[u64; 128], a: Triple) -> Pixel
     ensures { λ p. ⌜ p ≡ candidatePixel s a ⌝ }
 {
     let x = aces_inverse::candidate(s, a);
-    Pixel {
-        red: encode::code_of(s, d, t, x.red),
-        green: encode::code_of(s, d, t, x.green),
-        blue: encode::code_of(s, d, t, x.blue),
-    }
+    encode::pixel_of(s, d, t, x.red, x.green, x.blue)
 }
 
 // A pixel, where it gives the numbers.

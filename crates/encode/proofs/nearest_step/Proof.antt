@@ -27,7 +27,7 @@ above : (c : tie.Else1) → dn (c .before .before .args .x .0) ≤ up (c .before
 above c = shifted.not-under (c .before .before .args .x .0) (rw (read-back (fits (c .before))) at (c .if1 .left))
 
 high : (c : tie.Else1) → up (c .before .before .args .x .0) ≤ 2 ^ 40
-high c = scene-passed (c .before .before .args .x .0) (c .before .before .pre .1) .0
+high c = scene-passed (c .before .before .args .x .0) (c .before .before .pre .1 .1) .0
 
 returns : tie.Need-returns
 returns c =
@@ -36,23 +36,23 @@ returns c =
     (c .before .before .args .x .0) (omega (arith, below c)))
 
 add-find : tie.Need-add-find
-add-find c = shifted.add-fits (c .before .before .before .args .x .0) (fits (c .before .before)) (above (c .before)) (high (c .before))
+add-find c = shifted.add-fits (c .before .before .args .x .0) (fits (c .before)) (above c) (high c)
 
 cast-find : tie.Need-cast-find
-cast-find c = shifted.cast-fits (c .before .before .before .args .x .0) (fits (c .before .before)) (above (c .before)) (high (c .before))
+cast-find c = shifted.cast-fits (c .before .before .args .x .0) (fits (c .before)) (above c) (high c)
 
 find-requires : tie.Need-find-requires
 find-requires c κs = (
-  rw (c .before .before .before .pre .0 .decoder, c .before .before .before .pre .0 .table, c .last-step .ensures) (rising (c .before .before .before .args .s) (c .before .before .before .pre .0 .valid)),
-  shifted.small (c .before .before .before .args .x .0) (fits (c .before .before)) (above (c .before)) (high (c .before)),
+  rw (c .before .before .pre .0 .decoder, c .before .before .pre .0 .table, c .before .before .pre .1 .0) (rising (c .before .before .args .s) (c .before .before .pre .0 .valid)),
+  shifted.small (c .before .before .args .x .0) (fits (c .before)) (above c) (high c),
 )
 
 returns-2 : tie.Need-returns-2
 returns-2 c =
-    step-is (c .before .before .before .before .args .s) (c .before .before .before .before .pre .0 .valid) (c .before .before .before .before .args .x .0) (c .find .result .0)
-    (step-within _ _ (c .before .before .before .before .args .x .0) _ (c .find .result .0)
-    (shifted.shifted (c .before .before .before .before .args .x .0) (fits (c .before .before .before)) (above (c .before .before)) (high (c .before .before)))
-    (rw (c .before .before .before .before .pre .0 .decoder, c .before .before .before .before .pre .0 .table, c .before .last-step .ensures) at (c .find .ensures)))
+    step-is (c .before .before .before .args .s) (c .before .before .before .pre .0 .valid) (c .before .before .before .args .x .0) (c .find .result .0)
+    (step-within _ _ (c .before .before .before .args .x .0) _ (c .find .result .0)
+    (shifted.shifted (c .before .before .before .args .x .0) (fits (c .before .before)) (above (c .before)) (high (c .before)))
+    (rw (c .before .before .before .pre .0 .decoder, c .before .before .before .pre .0 .table, c .before .before .before .pre .1 .0) at (c .find .ensures)))
 
 pub nearest-step-spec : {M : Type 1} → statement M
 nearest-step-spec =
@@ -60,7 +60,6 @@ nearest-step-spec =
     (tie.spec
     (λ c. search needs)
     returns
-    (λ c κs. search needs)
     add-find
     cast-find
     find-requires

@@ -9,6 +9,7 @@ use Rattle.rules.specs.declared.Check.the-variants.{Passed}
 use Rattle.rules.specs.declared.Setting.{Setting}
 use Rattle.rules.specs.Setting.{Valid}
 use Rattle.rules.specs.Encoding.{sceneCheck}
+use Rattle.rules.specs.Pixels.{pixel}
 use Rattle.rules.proofs.Between.{scene-passes}
 use Rattle.encode.specs.Encoded.{encoded}
 use Rattle.aces_inverse.specs.Reach.{InReach}
@@ -20,23 +21,23 @@ use Rattle.way_back.proofs.candidate.Tie as tie
 passes : (s : Setting) → Valid s → {a b c x : ℤ} → InReach a b c → (k : ℕ) → k < 3 → x ≡ candidate s k a b c → sceneCheck x ≡ Passed
 passes s v {a} {b} {c} g k h e = ap sceneCheck e ∙ scene-passes (candidate s k a b c) (candidate-small s v a b c g k h)
 
-code-of-requires : tie.Need-code-of-requires
-code-of-requires c κs = let s = c .before in (s .pre .0, passes (s .args .s) (s .pre .0 .valid) (s .pre .1) 0 (lit< tt) (c .candidate .ensures .red-is))
-
-code-of-requires-2 : tie.Need-code-of-requires-2
-code-of-requires-2 c κs = let s = c .before .before in (s .pre .0, passes (s .args .s) (s .pre .0 .valid) (s .pre .1) 1 (lit< tt) (c .before .candidate .ensures .green-is))
-
-code-of-requires-3 : tie.Need-code-of-requires-3
-code-of-requires-3 c κs = let s = c .before .before .before in (s .pre .0, passes (s .args .s) (s .pre .0 .valid) (s .pre .1) 2 (lit< tt) (c .before .before .candidate .ensures .blue-is))
-
 returns : tie.Need-returns
 returns c =
-    let k = c .before .before .before in
-    let s = k .before .args .s in
-    let r = c .before .before .code-of .ensures ∙ ap (encoded s) (k .candidate .ensures .red-is) in
-    let g = c .before .code-of2 .ensures ∙ ap (encoded s) (k .candidate .ensures .green-is) in
-    let b = c .code-of3 .ensures ∙ ap (encoded s) (k .candidate .ensures .blue-is) in
-    λ i. record { red = record { 0 = r i }; green = record { 0 = g i }; blue = record { 0 = b i } }
+    let s = c .before .before .args .s in
+    let is = c .before .candidate .ensures in
+    c .pixel-of .ensures ∙ (λ i. pixel (encoded s (is .red-is i)) (encoded s (is .green-is i)) (encoded s (is .blue-is i)))
+
+pixel-of-requires : tie.Need-pixel-of-requires
+pixel-of-requires c κs =
+    let s = c .before in
+    let is = c .candidate .ensures in
+    let v = s .pre .0 .valid in (
+      s .pre .0,
+      (
+        passes (s .args .s) v (s .pre .1) 0 (lit< tt) (is .red-is),
+        (passes (s .args .s) v (s .pre .1) 1 (lit< tt) (is .green-is), passes (s .args .s) v (s .pre .1) 2 (lit< tt) (is .blue-is)),
+      ),
+    )
 
 pub candidate-spec : {M : Type 1} → statement M
-candidate-spec = tie.close (tie.spec (λ c κs. search needs) code-of-requires code-of-requires-2 code-of-requires-3 returns)
+candidate-spec = tie.close (tie.spec (λ c κs. search needs) pixel-of-requires returns)
