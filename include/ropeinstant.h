@@ -1,4 +1,5 @@
-/* Ropeinstant for C: the conversions of strips and of float pixels, and the top code of a width, for x86-64 Linux. A program that uses them is compiled by
+/* Ropeinstant for C: the conversions of strips and of float pixels, and the top code of a width, for x86-64 Linux. A program that uses them
+ * is compiled by
  *
  *   gcc program.c $(pkg-config --cflags --libs ropeinstant) -o program       with the installed library (`make install`)
  *   gcc -Iinclude program.c target/staticlib/libropeinstant.a -o program      in the repository (`./ropeinstant --version` builds it)
@@ -92,8 +93,8 @@ uint32_t ropeinstant_codes_to_floats(uint8_t curve, uint8_t width, uint16_t ei, 
  * 3 to 5, 8 and 9. */
 uint32_t ropeinstant_floats_to_codes(uint8_t curve, uint8_t width, uint16_t ei, double red, double green, double blue, uint16_t codes[3]);
 
-/* The top code of a width of 1 to 16 bits at full range: two to the width, less one. 0 for any other number: for 140, whose codes end at
- * 3760, among them. So it is not a test that a curve has the width; a conversion tells that by 4. This is proved, for every width. */
+/* The top code of a width of 1 to 16 bits at full range: two to the width, less one. 0 for any other number, 140 among them, whose codes end
+ * at 3760. It does not say that a curve has the width: a conversion refuses by 4 where it has not. This is proved, for every width. */
 uint16_t ropeinstant_top_code(uint8_t width);
 
 #ifdef __cplusplus

@@ -25,7 +25,7 @@ CONSTANTS = {  # EI: cut b c d e f
     1600: "0.013047 0.038625 0.237781 0.387093 5.163350 0.092824",
 }
 WIDTHS = {3: (10, 12, 16), 4: (12, 16, 140)}  # of each curve
-LEGAL = {140: range(256, 3761)}  # the codes of a width that are not all of its bits
+LEGAL = {140: range(256, 3761)}  # the codes of a width byte that is no count of bits
 EIS = {3: tuple(CONSTANTS), 4: (0,)}
 SETTINGS = [(curve, width, ei) for curve in WIDTHS for width in WIDTHS[curve] for ei in EIS[curve]]
 COUNT = 850353  # codes of all settings

@@ -12,6 +12,8 @@ import functools, os, re, sys
 from collections import namedtuple
 from pathlib import Path
 
+from decoded import top_code
+
 ROOT = Path(__file__).resolve().parent.parent
 README, PROMISES, DECISIONS = "README.md", "docs/PROMISES.md", "docs/DECISIONS.md"
 ARCHITECTURE, FORMAT = "docs/ARCHITECTURE.md", "docs/FORMAT.md"
@@ -377,7 +379,8 @@ def curve(module):
 
 def figures(sources, texts):
     """the tables of FORMAT.md and COMMAND.md that hold figures: the settings, the constants, the matrices, the
-    bytes of a record and the refusals' numbers are those of the code and of the rules"""
+    bytes of a record and the refusals' numbers are those of the code and of the rules; and the top codes that FORMAT.md
+    gives are those of the widths in bits"""
     curves = [curve("log_c3"), curve("log_c4")]
     record = (ROOT / "crates/rules/specs/Record.antt").read_text()
     code, number = (4 + 3 * int(re.search(rf"(?m)^{name} = (\d+)", record)[1]) for name in ("codeBytes", "numberBytes"))
@@ -392,6 +395,10 @@ def figures(sources, texts):
         ("from red", "from green", "from blue"): entries,
         ("No.",): [[n] for n in refused],
     }
+    widths = sorted({int(width) for _, some, *_ in curves for width in some.split(", ")})
+    *tops, last = filter(int, (str(top_code(width)) for width in widths))
+    if f"{', '.join(tops)} or {last}" not in " ".join(texts[FORMAT].split()):
+        yield f"{FORMAT}: the top codes of the widths in bits are {', '.join(tops)} or {last}"
     for document in FORMAT, COMMAND:
         for columns, right in wanted.items():
             found = [[row[c] for c in columns] for _, row in rows(document, texts[document]) if {*columns} <= {*row}]
@@ -482,6 +489,7 @@ def damaged(sources, texts):
     yield "a line that is too long", swap("\n\n", "\n\n" + "long " * COLUMNS, README), "columns"
     for figure in "| 10 | a code", "10, 12, 16 |", "| 0.005561 |", "| 680205 |", "| 9 | a float":
         yield f"another figure in {figure}", swap(figure, figure.replace("0", "7").replace("9", "8"), FORMAT), FORMAT
+    yield "another top code", swap("1023, ", "1024, ", FORMAT), "the top codes"
     yield "a name of another file", swap(f"{named} in {place}", f"`main` in {place}", DECISIONS), "`main` is not in"
     yield "an open function with a `requires`", swap(open_one[0], f"{asks.crate} `{asks.name}`"), asks.name
     yield "an open function not listed", swap(f"| {open_one[0]} |", "| |"), open_one[2]

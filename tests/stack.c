@@ -30,6 +30,12 @@ static void float_pixels(void)
         ropeinstant_floats_to_codes(3, 16, 800, floats[0], floats[1], floats[2], codes);
 }
 
+static void top_codes(void)
+{
+    for (int width = 0; width <= UINT8_MAX; width++)
+        ropeinstant_top_code(width);
+}
+
 static void *run(void *of)
 {
     struct job *job = of;
@@ -75,6 +81,10 @@ int main(void)
         {"pixel to ACES", ropeinstant_pixel_to_aces, 10, 28, NULL},
         {"ACES to pixel", ropeinstant_aces_to_pixel, 28, 10, ropeinstant_pixel_to_aces},
     };
+    const struct {
+        const char *name;
+        void (*call)(void);
+    } others[] = {{"float pixels", float_pixels}, {"top codes", top_codes}};
     const size_t counts[] = {0, 1, 15, 16, 4096, 4097, MOST};
     size_t none = touched((struct job){NULL, 0, 0, NULL}), greatest = 0;
     uint8_t *pixels = malloc(MOST * 10);
@@ -94,6 +104,10 @@ int main(void)
         printf("stack: %s takes %zu bytes\n", conversions[c].name, most);
         greatest = most > greatest ? most : greatest;
     }
-    printf("stack: float pixels take %zu bytes\n", touched((struct job){NULL, 0, 0, float_pixels}) - none);
+    for (size_t k = 0; k < sizeof others / sizeof *others; k++) {
+        size_t used = touched((struct job){NULL, 0, 0, others[k].call}) - none;
+        printf("stack: %s take %zu bytes\n", others[k].name, used);
+        greatest = used > greatest ? used : greatest;
+    }
     return greatest > PROMISED;
 }

@@ -92,6 +92,7 @@ def progression(count, first, ratio, t, c):
 
 
 def top_code(width):
+    """02, item 2: two to the width, less one, for a width from 1 to 16, and 0 for any other number"""
     return 2 ** width - 1 if 1 <= width <= 16 else 0
 
 

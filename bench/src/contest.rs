@@ -1,4 +1,5 @@
 //! The contest of one setting: the contestants' times, and the shares of pixels that come back a code off.
+use crate::library::{convert, ropeinstant_aces_to_pixel, ropeinstant_pixel_to_aces, Function};
 use crate::ocio::Ocio;
 use crate::plain::{self, Codes, ACES, PIXEL};
 
@@ -12,14 +13,6 @@ const THREAD_CPU_TIME: i32 = 3; // CLOCK_THREAD_CPUTIME_ID
 
 extern "C" {
     fn clock_gettime(clock: i32, time: *mut Timespec) -> i32;
-    fn ropeinstant_pixel_to_aces(input: *const u8, input_len: usize, output: *mut u8, output_len: usize, at: *mut u64) -> u32;
-    fn ropeinstant_aces_to_pixel(input: *const u8, input_len: usize, output: *mut u8, output_len: usize, at: *mut u64) -> u32;
-    fn ropeinstant_top_code(width: u8) -> u16;
-}
-
-/// The top code of a width in bits.
-pub fn top_code(bits: u8) -> u16 {
-    unsafe { ropeinstant_top_code(bits) }
 }
 
 pub const LINE: usize = 1024; // pixels
@@ -122,14 +115,6 @@ fn random_strip(setting: &Setting, pixels: usize) -> Vec<u8> {
         }
     }
     strip
-}
-
-type Function = unsafe extern "C" fn(*const u8, usize, *mut u8, usize, *mut u64) -> u32;
-
-fn convert(function: Function, input: &[u8], output: &mut [u8]) {
-    let mut at = 0;
-    let number = unsafe { function(input.as_ptr(), input.len(), output.as_mut_ptr(), output.len(), &mut at) };
-    assert_eq!(number, 0, "refused at record {}", at);
 }
 
 /// Converts a strip line by line.

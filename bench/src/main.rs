@@ -1,5 +1,6 @@
 //! bench [PIXELS [REPETITIONS]]: Ropeinstant beside a plain f64 program, OpenColorIO and a copy of the bytes, on one thread, in one run.
 mod contest;
+mod library;
 mod ocio;
 mod plain;
 
@@ -24,7 +25,10 @@ fn main() {
         contests.iter_mut().for_each(|contest| contest.round(pixels));
     }
     println!("Nanoseconds a pixel on one thread, and how many times Ropeinstant's time that is (below 1: faster than Ropeinstant).");
-    println!("{} random pixels a setting, the least of {} runs that alternate, in lines of {} pixels, and Ropeinstant in one strip too.", pixels, repetitions, LINE);
+    println!(
+        "{} random pixels a setting, the least of {} runs that alternate, in lines of {} pixels, and Ropeinstant in one strip too.",
+        pixels, repetitions, LINE
+    );
     println!("OpenColorIO: {}.\n", Ocio::version());
     print_times("pixel to ACES", &contests, |contest| &contest.to_aces);
     print_times("ACES to pixel", &contests, |contest| &contest.to_camera);
@@ -59,9 +63,7 @@ fn print_shares(contests: &[Contest]) {
     println!(
         "Plain f64 reads and writes the same records with the same checks, but its way back gives the nearest codes and refuses nothing;"
     );
-    println!(
-        "OpenColorIO works in place on float32 signals; turning codes to signals and back is not in its time."
-    );
+    println!("OpenColorIO works in place on float32 signals; turning codes to signals and back is not in its time.");
 }
 
 fn title(setting: &Setting) -> String {

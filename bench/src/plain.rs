@@ -1,6 +1,6 @@
 //! The same conversions as a plain program would do them, with f64, powf and log: the same records in and out, the same checks of settings
 //! and codes. It is not exact, and its way back gives the nearest codes, where the exact one refuses what no pixel has.
-use crate::contest::top_code;
+use crate::library::top_code;
 use std::convert::TryInto;
 
 const UNIT: f64 = 16777216.0; // units in 1
@@ -164,7 +164,10 @@ pub fn to_aces(input: &[u8], output: &mut [u8]) -> bool {
         }
         aces[..SETTING].copy_from_slice(&pixel[..SETTING]);
         let numbers = plain.aces(codes.map(|code| plain.decode(code)));
-        numbers.iter().zip(aces[SETTING..].chunks_exact_mut(NUMBER)).for_each(|(number, bytes)| bytes.copy_from_slice(&number.to_le_bytes()));
+        numbers
+            .iter()
+            .zip(aces[SETTING..].chunks_exact_mut(NUMBER))
+            .for_each(|(number, bytes)| bytes.copy_from_slice(&number.to_le_bytes()));
     }
     true
 }

@@ -21,8 +21,8 @@ forWidth default width [] = default
 forWidth default width (x ∷ xs) = choose (eqb width (x .width)) (x .value) (forWidth default width xs)
 
 -- how many entries the first digit has
-abbrev pub firstDigits : (width : ℕ) → ℕ
-firstDigits width = lastStep width / 1024 + 1
+abbrev pub firstDigits : (last : ℕ) → ℕ
+firstDigits last = last / 1024 + 1
 
 -- the middle digit's entries stand at the scale 2 ^ 63 over this, so that each fits a word; the first digit's entries make up for it
 abbrev pub shiftOf : (width : ℕ) → ℕ
@@ -55,7 +55,7 @@ tableBy c s ratio count shift =
     ++ progression 32 fine fine ratio (2 ^ 63) 1))
 
 abbrev pub tableWith : (c : Curve) (s : Seed) (width : ℕ) → List ℕ
-tableWith c s width = tableBy c s (ratioOf width s) (firstDigits width) (shiftOf width)
+tableWith c s width = tableBy c s (ratioOf width s) (firstDigits (lastStep width)) (shiftOf width)
 
 unfoldable pub logC4Table : (width : ℕ) → List ℕ
 logC4Table width =

@@ -15,7 +15,7 @@ use Rattle.power.specs.Progression.{squareDown, squareUp}
 use Rattle.whole.proofs.Tests.{both, both-left, both-right, every, nth, passes}
 use Rattle.power.proofs.Certificate.{up-run, down-run}
 use Rattle.power.proofs.Rows.{row}
-use Rattle.curve_table.specs.Table.{lift, fine}
+use Rattle.curve_table.specs.Table.{lift, fine, firstDigits}
 use Rattle.decode.specs.Decoded.{offset, product, rawBy, decoderOf, firstOf, biasOf, toeOf}
 use Rattle.decode.proofs.Cleared.{rise, exponentAt}
 
@@ -100,7 +100,7 @@ module _ (k : Scale) where
 
   -- how many entries the first digit has
   abbrev pub count : ℕ
-  count = k .last / 1024 + 1
+  count = firstDigits (k .last)
 
 -- ---- the toe, of a curve that has one. Numbers are to be g apart.
 

@@ -56,23 +56,14 @@ fn nearest_step(s: Setting, d: Decoder, t: &[u64; 128], last: Step, x: Scene) ->
     nearest_code::find(s, d, t, last, (number + OFFSET) as u64)
 }
 
-// The code of a scene number, of a setting with this last step.
-fn code_up_to(s: Setting, d: Decoder, t: &[u64; 128], last: Step, x: Scene) -> Code
+// The code of a scene number, likewise.
+fn code_of(s: Setting, d: Decoder, t: &[u64; 128], last: Step, x: Scene) -> Code
     requires { ⌜ Ready s d (now t) ⌝ }
     requires { ⌜ last .0 ≡ lastOf s ⌝ }
     requires { ⌜ sceneCheck (x .0) ≡ Passed ⌝ }
     ensures { λ r. ⌜ r .0 ≡ encoded s (x .0) ⌝ }
 {
     setting::code_at(s, nearest_step(s, d, t, last, x))
-}
-
-// The code of a scene number.
-pub fn code_of(s: Setting, d: Decoder, t: &[u64; 128], x: Scene) -> Code
-    requires { ⌜ Ready s d (now t) ⌝ }
-    requires { ⌜ sceneCheck (x .0) ≡ Passed ⌝ }
-    ensures { λ r. ⌜ r .0 ≡ encoded s (x .0) ⌝ }
-{
-    code_up_to(s, d, t, setting::last_step(s), x)
 }
 
 // The pixel of three scene numbers, with the last step computed once.
@@ -92,9 +83,9 @@ pub fn pixel_of(
 {
     let last = setting::last_step(s);
     Pixel {
-        red: code_up_to(s, d, t, last, red),
-        green: code_up_to(s, d, t, last, green),
-        blue: code_up_to(s, d, t, last, blue),
+        red: code_of(s, d, t, last, red),
+        green: code_of(s, d, t, last, green),
+        blue: code_of(s, d, t, last, blue),
     }
 }
 
@@ -107,7 +98,8 @@ fn encode_valid(s: Setting, x: Scene) -> Encoding
         Check::Passed => {
             let d = Decoder::new(s);
             let t = curve_table::table(s);
-            Encoding::Code(code_of(s, d, &t, x))
+            let last = setting::last_step(s);
+            Encoding::Code(code_of(s, d, &t, last, x))
         }
     }
 }

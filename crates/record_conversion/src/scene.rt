@@ -3,7 +3,7 @@ ghost use mathlib.Core.Path.{_≡_};
 ghost use Prim.Native.Nat.{_+_, _≤_};
 ghost use lib.ListN.{length, take, drop};
 ghost use Rattle.rules.specs.declared.Check.the-variants.{Passed};
-ghost use Rattle.rules.specs.Record.{value, codeBytes, numberBytes, pixelSize, numbersSize};
+ghost use Rattle.rules.specs.Record.{value, ofBits, codeBytes, numberBytes, pixelSize, numbersSize};
 ghost use Rattle.decode.specs.Ready.{Ready};
 ghost use Rattle.record_conversion.specs.Conversions.{codeBits};
 ghost use Rattle.rules.specs.Conversions.{channelChecks, eachChannel, numberCheck};
@@ -12,17 +12,23 @@ use records::BLUE_NUMBER;
 use records::GREEN_NUMBER;
 use records::SETTING_BYTES;
 use rules::Check;
-use rules::Code;
-use rules::Pixel;
 use rules::Scene;
 use rules::Setting;
+
+// The number at a place of the record.
+fn scene_in(r: &[u8], at: usize) -> Scene
+    requires { ⌜ at + numberBytes ≤ length (now r) ⌝ }
+    ensures { λ x. ⌜ x .0 ≡ ofBits numberBytes (value (take numberBytes (drop at (now (r .entry))))) ⌝ }
+{
+    Scene(little_endian::number_at(r, at))
+}
 
 // The check of the number at a place of the record.
 fn check_at(s: Setting, r: &[u8], at: usize) -> Check
     requires { ⌜ at + numberBytes ≤ length (now r) ⌝ }
     ensures { λ x. ⌜ x ≡ numberCheck s (value (take numberBytes (drop at (now (r .entry))))) ⌝ }
 {
-    encode::check_scene(Scene(little_endian::number_at(r, at)))
+    encode::check_scene(scene_in(r, at))
 }
 
 // The checks of the three numbers of a record.
@@ -41,16 +47,6 @@ pub fn check_numbers(s: Setting, r: &[u8]) -> Check
     check_at(s, r, BLUE_NUMBER)
 }
 
-// The code of the number at a place of the record.
-fn code_at(s: Setting, d: Decoder, t: &[u64; 128], r: &[u8], at: usize) -> Code
-    requires { ⌜ Ready s d (now t) ⌝ }
-    requires { ⌜ at + numberBytes ≤ length (now r) ⌝ }
-    requires { ⌜ numberCheck s (value (take numberBytes (drop at (now r)))) ≡ Passed ⌝ }
-    ensures { λ n. ⌜ n .0 ≡ codeBits s (value (take numberBytes (drop at (now (r .entry))))) ⌝ }
-{
-    encode::code_of(s, d, t, Scene(little_endian::number_at(r, at)))
-}
-
 // What is written for a record: its setting and codes.
 pub fn write_pixel(s: Setting, d: Decoder, t: &[u64; 128], r: &[u8], out: &mut [u8])
     requires { ⌜ Ready s d (now t) ⌝ }
@@ -59,10 +55,9 @@ pub fn write_pixel(s: Setting, d: Decoder, t: &[u64; 128], r: &[u8], out: &mut [
     requires { ⌜ length (now out) ≡ pixelSize ⌝ }
     ensures { λ _. ⌜ now (out .exit) ≡ eachChannel numberBytes codeBytes s (codeBits s) (now (r .entry)) ⌝ }
 {
-    let p = Pixel {
-        red: code_at(s, d, t, r, SETTING_BYTES),
-        green: code_at(s, d, t, r, GREEN_NUMBER),
-        blue: code_at(s, d, t, r, BLUE_NUMBER),
-    };
+    let red = scene_in(r, SETTING_BYTES);
+    let green = scene_in(r, GREEN_NUMBER);
+    let blue = scene_in(r, BLUE_NUMBER);
+    let p = encode::pixel_of(s, d, t, red, green, blue);
     records::put_pixel(out, s, p);
 }

@@ -21,16 +21,16 @@ above m n a b h = rw (lt-leb m n h)
 -- of at most 16 bits it is two to the width, less one. (0 is no width, and two to the 0, less one, is 0 too.)
 pub top-of-bits : (w : ℕ) → w ≤ 16 → topOf w ≡ 2 ^ w - 1
 top-of-bits zero h = refl
-top-of-bits (suc w) h = at-most 1 (suc w) _ _ (omega arith) ∙ at-most (suc w) _ _ _ (omega (arith, h))
+top-of-bits (suc w) h = at-most _ (suc w) _ _ (omega arith) ∙ at-most (suc w) _ _ _ (omega (arith, h))
 
 -- of any other number it is 0
 pub top-of-others : (w : ℕ) → 16 < w → topOf w ≡ 0
-top-of-others w h = at-most 1 w _ _ (omega arith) ∙ above w _ _ _ (omega (arith, h))
+top-of-others w h = at-most _ w _ _ (omega (arith, h)) ∙ above w _ _ _ (omega (arith, h))
 
--- so it fits two bytes
 pub bits-fit : (w : ℕ) → w ≤ 16 → 2 ^ w - 1 < 2 ^ 16
 bits-fit w h = lt-of-lt-of-le (pow-sub-lt w (lit< tt)) (pow-mono h)
 
+-- so it fits two bytes
 pub top-fits : (w : ℕ) → topOf w < 2 ^ 16
 top-fits w = go (leb w 16) refl
   where

@@ -91,9 +91,9 @@ codeAt s i = codesOf s .first + i * codesOf s .apart
 abbrev pub stepOf : Setting → (code : ℕ) → ℕ
 stepOf s n = (n - codesOf s .first) / codesOf s .apart
 
--- refusals 11 and 6: a code below the first, and one above the last ("code above top")
-abbrev pub codeBetween : (first last : ℕ) → ℕ → Check
-codeBetween first last n = then (refuseUnless (leb first n) CodeBelowFirst) (refuseUnless (leb n last) CodeAboveTop)
+-- refusals 11 and 6: a code below the first, and one above the top ("code above top")
+abbrev pub codeBetween : (first top : ℕ) → ℕ → Check
+codeBetween first top n = then (refuseUnless (leb first n) CodeBelowFirst) (refuseUnless (leb n top) CodeAboveTop)
 
 -- the same, of a setting that passes its checks
 abbrev pub codeCheck : Setting → ℕ → Check

@@ -60,7 +60,8 @@ pub fn check_setting(s: Setting) -> Check
     }
 }
 
-// The top code of a width of 1 to 16 bits, two to the width, less one. 0 for any other number.
+// The top code of a width of 1 to 16 bits, two to the width, less one. 0 for any other number. (Of width 0 the
+// shift gives 0 too.)
 pub fn top_code(width: u8) -> Code
     ensures { λ r. ⌜ r .0 ≡ topOf width ⌝ }
 {

@@ -8,17 +8,21 @@ use Rattle.rules.specs.Result.{done}
 use Rattle.encode.proofs.encode_valid.Statement.{statement}
 use Rattle.encode.proofs.encode_valid.Tie as tie
 
-code-of-requires : tie.Need-code-of-requires
-code-of-requires c κs =
-    (record { valid = c .before .before .before .before .before .before .pre; decoder = c .before .before .new .ensures; table = c .before .table .ensures }, sym (c .before .before .before .before .before .check-scene .ensures) ∙ c .before .before .before .enum-told .given .1)
-
 returns : tie.Need-returns
 returns c = rw (sym (c .before .before .before .check-scene .ensures) ∙ c .before .r .given .1)
 
 returns-2 : tie.Need-returns-2
 returns-2 c =
-    rw (sym (c .before .before .before .before .before .before .check-scene .ensures) ∙ c .before .before .before .before .enum-told .given .1)
-    (ap (λ (n : ℕ). done (n ∷ [])) (c .code-of .ensures))
+    let told = c .before .before .before .before .before in
+    rw (sym (told .before .before .check-scene .ensures) ∙ told .enum-told .given .1) (ap (λ (n : ℕ). done (n ∷ [])) (c .code-of .ensures))
+
+code-of-requires : tie.Need-code-of-requires
+code-of-requires c κs =
+    let table = c .before .before in
+    let told = table .before .before in (
+      record { valid = told .before .before .before .pre; decoder = table .before .new .ensures; table = table .table .ensures },
+      (c .before .last-step .ensures, sym (told .before .before .check-scene .ensures) ∙ told .enum-told .given .1),
+    )
 
 pub encode-valid-spec : {M : Type 1} → statement M
 encode-valid-spec =
@@ -27,6 +31,7 @@ encode-valid-spec =
     (λ c κs. search needs)
     (λ c. search needs)
     (λ c. search needs)
+    (λ c κs. search needs)
     (λ c κs. search needs)
     (λ c κs. search needs)
     code-of-requires

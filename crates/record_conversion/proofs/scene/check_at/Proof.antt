@@ -2,13 +2,12 @@
 -- Assumes nothing.
 use mathlib.Core.Path.{ap, _∙_}
 use borrow.Author.Needs.{needs}
-use Rattle.whole.proofs.Words.{read-back}
 use Rattle.rules.specs.Encoding.{sceneCheck}
 use Rattle.record_conversion.proofs.scene.check_at.Statement.{statement}
 use Rattle.record_conversion.proofs.scene.check_at.Tie as tie
 
 returns : tie.Need-returns
-returns c = c .check-scene .ensures ∙ ap sceneCheck (read-back (record { sfits = c .before .number-at .ok }) ∙ c .before .number-at .ensures)
+returns c = c .check-scene .ensures ∙ ap sceneCheck (c .before .scene-in .ensures)
 
 pub check-at-spec : {M : Type 1} → statement M
 check-at-spec = tie.close (tie.spec (λ c κs. search needs) (λ c κs. search needs) returns)
