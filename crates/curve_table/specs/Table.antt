@@ -8,7 +8,6 @@ use Rattle.rules.specs.Choice.{choose}
 use Rattle.rules.specs.declared.Setting.{Setting}
 use Rattle.rules.specs.declared.CurveName.{CurveName}
 use Rattle.rules.specs.declared.CurveName.the-variants.{LogC3, LogC4, Unknown}
-use Rattle.rules.specs.Fraction.{Fraction}
 use Rattle.rules.specs.Curve.{Curve, logC4, logC, Row, logC3Rows, base, factor}
 use Rattle.rules.specs.Setting.{named, lastStep}
 use Rattle.curves.specs.LogC3.{rowOf}

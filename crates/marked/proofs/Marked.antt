@@ -7,7 +7,7 @@ use Prim.Native.Nat.{ℕ, _^_, _≤_}
 use native.Mathlib.Nat.{le-refl, le-antisymm}
 use native.Mathlib.Omega.{arith}
 use borrow.Author.Tests.{eqb-true, eqb-false, ltb-true, ltb-false}
-use lib.Dec.{T, eqb, leb, ltb, lit<, lit≤}
+use lib.Dec.{T, eqb, leb, ltb, lit<}
 use lib.IntN.{ℤ, pos, negsuc, natAbs, _-ℤ_}
 use lib.Signed.{_<ℤ_}
 use Rattle.whole.specs.Parts.{up}
@@ -16,9 +16,9 @@ use Rattle.whole.proofs.Near.{near-test}
 use Rattle.whole.proofs.Tidy.{tidy}
 use Rattle.rules.specs.Fraction.{Fraction, whole, ratio, integer, _+ℚ_, _-ℚ_, _*ℚ_, VersusPower, nearest, Less, Greater}
 use Rattle.rules.specs.declared.Setting.{Setting}
-use Rattle.rules.specs.Setting.{settingCheck, topOf, codesOf, curveOf, lastOf, codeAt, stepOf, codeCheck, Valid}
+use Rattle.rules.specs.Setting.{settingCheck, topOf, codesOf, curveOf, lastOf, codeAt, codeCheck, Valid}
 use Rattle.rules.specs.Curve.{logC4, exponent, toeValue}
-use Rattle.rules.specs.Exact.{Scale, signal, scaleOf, powerFor, VersusPart}
+use Rattle.rules.specs.Exact.{Scale, signal, powerFor, VersusPart}
 use Rattle.rules.specs.Decoding.{Decodes, DecodesCode, DecodesPart, tolerance, unit}
 use Rattle.rules.specs.Encoding.{IsNearest, numberAt, sceneCheck}
 use Rattle.rules.specs.Float.{valueOf, floatCheck, unitsOf}

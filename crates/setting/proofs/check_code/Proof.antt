@@ -1,6 +1,6 @@
 -- `check_code` meets its contract: the top code is that of the last step.
 -- Assumes nothing.
-use mathlib.Core.Path.{_≡_, ap, ap₂, _∙_}
+use mathlib.Core.Path.{ap, ap₂, _∙_}
 use Prim.Native.Nat.{ℕ}
 use borrow.Author.Needs.{needs}
 use Rattle.rules.specs.Setting.{codeAt, codeBetween}

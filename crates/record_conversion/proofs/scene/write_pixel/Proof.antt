@@ -1,7 +1,6 @@
 -- `write_pixel` meets its contract: the pixel of the three numbers is written.
 -- Assumes nothing.
 use mathlib.Core.Path.{ap, _∙_}
-use native.Mathlib.Omega.{arith}
 use borrow.Author.Needs.{needs}
 use denote.Ref.{now}
 use Rattle.rules.specs.declared.Pixel.{Pixel}
