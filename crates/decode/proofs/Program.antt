@@ -21,6 +21,7 @@ use Rattle.rules.specs.Curve.{Curve, Constants, logC, logC4, constantsAt, logC3
 use Rattle.rules.specs.declared.CurveName.the-variants.{LogC3}
 use Rattle.rules.specs.Setting.{named, codesOf, lastOf, curveOf, Valid}
 use Rattle.rules.specs.Exact.{Scale, scaleOf}
+use Rattle.rules.proofs.Codes.{last-small}
 use Rattle.rules.proofs.Settings.{forSettings, for-valid}
 use Rattle.whole.specs.Parts.{up, dn}
 use Rattle.whole.proofs.Tests.{every, nth, passes}
@@ -74,8 +75,7 @@ scale-is s k last e f g = rw (e, f, g)
 -- ---- the constants of a valid setting are small
 smallTests : Constants → (last : ℕ) → List Bool
 smallTests k last =
-    ltb last (2 ^ 16)
-    ∷ ltb (k .cut) (2 ^ 14)
+    ltb (k .cut) (2 ^ 14)
     ∷ ltb 0 (k .a)
     ∷ ltb (k .a) (2 ^ 29)
     ∷ ltb (up (k .b)) (2 ^ 21)
@@ -90,25 +90,25 @@ smallTests k last =
     ∷ leb (2 ^ 25 * (up (k .f) * last)) (k .e * last * 2097153 + 2 ^ 25 * (dn (k .f) * last))
     ∷ []
 
-small-of : (k : Constants) (last : ℕ) → T (every (smallTests k last)) → Small k last
+small-of : (k : Constants) (last : ℕ) → last < 2 ^ 16 → T (every (smallTests k last)) → Small k last
 unfolding nth smallTests
-small-of k last h =
+small-of k last l h =
     let test = passes (smallTests k last) h in
     record {
-      steps = ltb→lt _ _ (test 0);
-      cut = ltb→lt _ _ (test 1);
-      a-least = ltb→lt _ _ (test 2);
-      a = ltb→lt _ _ (test 3);
-      b-above = ltb→lt _ _ (test 4);
-      b-below = ltb→lt _ _ (test 5);
-      b-above-part = leb→le _ _ (test 6);
-      b-below-part = leb→le _ _ (test 7);
-      e = ltb→lt _ _ (test 8);
-      e-last = ltb→lt _ _ (test 9);
-      f-above = ltb→lt _ _ (test 10);
-      f-below = ltb→lt _ _ (test 11);
-      border = leb→le _ _ (test 12);
-      toe = leb→le _ _ (test 13);
+      steps = l;
+      cut = ltb→lt _ _ (test 0);
+      a-least = ltb→lt _ _ (test 1);
+      a = ltb→lt _ _ (test 2);
+      b-above = ltb→lt _ _ (test 3);
+      b-below = ltb→lt _ _ (test 4);
+      b-above-part = leb→le _ _ (test 5);
+      b-below-part = leb→le _ _ (test 6);
+      e = ltb→lt _ _ (test 7);
+      e-last = ltb→lt _ _ (test 8);
+      f-above = ltb→lt _ _ (test 9);
+      f-below = ltb→lt _ _ (test 10);
+      border = leb→le _ _ (test 11);
+      toe = leb→le _ _ (test 12);
     }
 
 -- of a curve with a toe
@@ -122,7 +122,7 @@ all-small = tt
 
 pub constants-small : (s : Setting) → Valid s → named (s .curve) ≡ LogC3 → Small (constantsAt (s .ei) logC3Rows) (lastOf s)
 constants-small s v e =
-    small-of (constantsAt (s .ei) logC3Rows) (lastOf s)
+    small-of (constantsAt (s .ei) logC3Rows) (lastOf s) (last-small s)
     (rw e at (for-valid (λ c w e. curveTest (curveOf (record { curve = c; width = w; ei = e })) (lastOf (record { curve = c; width = w; ei = e }))) all-small s v))
 
 -- ---- a number with its offset is small

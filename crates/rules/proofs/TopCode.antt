@@ -27,6 +27,7 @@ top-of-bits (suc w) h = at-most _ (suc w) _ _ (omega arith) ∙ at-most (suc w) 
 pub top-of-others : (w : ℕ) → 16 < w → topOf w ≡ 0
 top-of-others w h = at-most _ w _ _ (omega (arith, h)) ∙ above w _ _ _ (omega (arith, h))
 
+-- a number of at most 16 bits fits two bytes
 pub bits-fit : (w : ℕ) → w ≤ 16 → 2 ^ w - 1 < 2 ^ 16
 bits-fit w h = lt-of-lt-of-le (pow-sub-lt w (lit< tt)) (pow-mono h)
 
