@@ -12,7 +12,7 @@ use Rattle.rules.specs.declared.Answer.the-variants.{Done}
 use Rattle.rules.specs.declared.Check.{Check}
 use Rattle.rules.specs.declared.Check.the-variants.{Passed, Refused}
 use Rattle.rules.specs.declared.Refusal.{Refusal}
-use Rattle.rules.specs.declared.Refusal.the-variants.{PartialRecord, ShortOutput, UnknownCurve, UnknownWidth, UnknownEi, CodeAboveTop, SceneOutOfRange, FloatNotFinite, FloatOutOfRange, NoPixel, CodeBelowFirst}
+use Rattle.rules.specs.declared.Refusal.the-variants.{PartialRecord, ShortOutput, UnknownCurve, UnknownWidth, UnknownEi, CodeAboveTop, SceneOutOfRange, FloatNotFinite, FloatOutOfRange, NoPixel, CodeBelowFirst, NoMatrix}
 use Rattle.rules.specs.Refusal.{numberOf}
 use Rattle.rules.specs.Result.{Result, done, refusedBy, single, stripResult, Each}
 
@@ -29,6 +29,7 @@ number-positive FloatNotFinite = lit< tt
 number-positive FloatOutOfRange = lit< tt
 number-positive NoPixel = lit< tt
 number-positive CodeBelowFirst = lit< tt
+number-positive NoMatrix = lit< tt
 
 -- a result with the number 0 is of checks that pass
 pub zero-passed : {A : Type 0} (x : Check) (values : List A) → single x values .number ≡ 0 → x ≡ Passed

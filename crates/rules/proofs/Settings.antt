@@ -11,11 +11,11 @@ use Rattle.rules.specs.declared.Check.{Check}
 use Rattle.rules.specs.declared.Check.the-variants.{Passed, Refused}
 use Rattle.rules.specs.declared.Refusal.{Refusal}
 use Rattle.rules.specs.declared.CurveName.{CurveName}
-use Rattle.rules.specs.declared.CurveName.the-variants.{LogC3, LogC4, Unknown}
-use Rattle.rules.specs.declared.Refusal.the-variants.{UnknownCurve, UnknownWidth, UnknownEi}
+use Rattle.rules.specs.declared.CurveName.the-variants.{LogC2, LogC3, LogC4, Unknown}
+use Rattle.rules.specs.declared.Refusal.the-variants.{UnknownCurve, UnknownWidth, UnknownEi, NoMatrix}
 use Rattle.rules.specs.Choice.{choose, member}
 use Rattle.rules.specs.Refusal.{then, refuseUnless}
-use Rattle.rules.specs.Setting.{named, known, widthsOf, eisOf, settingCheck, Valid}
+use Rattle.rules.specs.Setting.{named, known, widthsOf, eisOf, settingCheck, Valid, hasMatrix, acesCheck, ValidForAces}
 
 -- ---- lists
 abbrev pub forAll : List ℕ → (ℕ → Bool) → Bool
@@ -80,45 +80,70 @@ members s v = record { curve = a .0; width = c .0; ei = passed-only (member (s .
 
 -- ---- what the name of a curve says of its number
 abbrev pub HasName : ℕ → CurveName → Type 0
+HasName n LogC2 = n ≡ 2
 HasName n LogC3 = n ≡ 3
 HasName n LogC4 = n ≡ 4
 HasName n Unknown = known (named n) ≡ false
 
 pub has-name : (n : ℕ) {c : CurveName} → named n ≡ c → HasName n c
-has-name n e = subst (HasName n) e (go (eqb n 3) (eqb n 4) refl refl)
+has-name n e = subst (HasName n) e (go (eqb n 2) (eqb n 3) (eqb n 4) refl refl refl)
   where
-    go : (x y : Bool) → eqb n 3 ≡ x → eqb n 4 ≡ y → HasName n (choose x LogC3 (choose y LogC4 Unknown))
-    go true y p q = eqb-true n 3 p
-    go false true p q = eqb-true n 4 q
-    go false false p q = rw (p, q)
+    go : (x y z : Bool) → eqb n 2 ≡ x → eqb n 3 ≡ y → eqb n 4 ≡ z → HasName n (choose x LogC2 (choose y LogC3 (choose z LogC4 Unknown)))
+    go true y z p q r = eqb-true n 2 p
+    go false true z p q r = eqb-true n 3 q
+    go false false true p q r = eqb-true n 4 r
+    go false false false p q r = rw (p, q, r)
 
 -- a valid setting names a curve
 pub valid-named : {A : Type 0} (s : Setting) → Valid s → named (s .curve) ≡ Unknown → A
 valid-named s v e = absurd (subst T (has-name (s .curve) e) (members s v .curve))
 
-pub other-curve : {A : Type 0} (s : Setting) → Valid s → (s .curve ≡ 3 → ⊥) → (s .curve ≡ 4 → ⊥) → A
-other-curve s v f g = valid-named s v (rw (ne-eqb (s .curve) 3 f, ne-eqb (s .curve) 4 g))
+-- ---- curve 2 has the EIs of curve 3
+pub same-eis : eisOf LogC2 ≡ eisOf LogC3
+same-eis = refl
 
--- a fact of each curve is one of a valid setting's
-pub for-curve : (P : CurveName → Type 0) → P LogC3 → P LogC4 → (s : Setting) → Valid s → P (named (s .curve))
-for-curve P a b s v = go (named (s .curve)) (members s v .curve)
+-- ---- a setting that is valid for ACES is valid, and its curve has a matrix
+pub aces-valid : (s : Setting) → ValidForAces s → Valid s
+unfolding acesCheck
+aces-valid s v = both (settingCheck s) (refuseUnless (hasMatrix (named (s .curve))) NoMatrix) v .0
+
+aces-matrix : (s : Setting) → ValidForAces s → T (hasMatrix (named (s .curve)))
+unfolding acesCheck
+aces-matrix s v = passed-only (hasMatrix (named (s .curve))) NoMatrix (both (settingCheck s) (refuseUnless (hasMatrix (named (s .curve))) NoMatrix) v .1)
+
+-- so a fact of each curve with a matrix is one of such a setting's
+pub for-aces : (P : CurveName → Type 0) → P LogC3 → P LogC4 → (s : Setting) → ValidForAces s → P (named (s .curve))
+for-aces P a b s v = go (named (s .curve)) (aces-matrix s v)
   where
-    go : (c : CurveName) → T (known c) → P c
+    go : (c : CurveName) → T (hasMatrix c) → P c
+    go LogC2 t = absurd t
     go LogC3 t = a
     go LogC4 t = b
     go Unknown t = absurd t
 
+-- and a fact of the other names is one of every other number's
+pub for-others : (P : CurveName → Type 0) → P LogC2 → P Unknown → (n : ℕ) → (n ≡ 3 → ⊥) → (n ≡ 4 → ⊥) → P (named n)
+for-others P a b n f g = rw (ne-eqb n 3 f, ne-eqb n 4 g) (go (eqb n 2))
+  where
+    go : (x : Bool) → P (choose x LogC2 Unknown)
+    go true = a
+    go false = b
+
+pub other-curve : {A : Type 0} (s : Setting) → ValidForAces s → (s .curve ≡ 3 → ⊥) → (s .curve ≡ 4 → ⊥) → A
+other-curve {A} s v f g = for-others (λ c. T (hasMatrix c) → A) (λ t. absurd t) (λ t. absurd t) (s .curve) f g (aces-matrix s v)
+
 -- ---- every setting there is passes the test
 abbrev pub curves : List ℕ
-curves = 3 ∷ 4 ∷ []
+curves = 2 ∷ 3 ∷ 4 ∷ []
 
 known-curve : (n : ℕ) → T (known (named n)) → T (member n curves)
-known-curve n h = go (eqb n 3) (eqb n 4) h
+known-curve n h = go (eqb n 2) (eqb n 3) (eqb n 4) h
   where
-    go : (x y : Bool) → T (known (choose x LogC3 (choose y LogC4 Unknown))) → T (choose x true (choose y true false))
-    go true y h = tt
-    go false true h = tt
-    go false false h = h
+    go : (x y z : Bool) → T (known (choose x LogC2 (choose y LogC3 (choose z LogC4 Unknown)))) → T (choose x true (choose y true (choose z true false)))
+    go true y z h = tt
+    go false true z h = tt
+    go false false true h = tt
+    go false false false h = h
 
 abbrev pub forSettings : (ℕ → ℕ → ℕ → Bool) → Bool
 forSettings p = forAll curves (λ c. forAll (widthsOf (named c)) (λ w. forAll (eisOf (named c)) (λ e. p c w e)))

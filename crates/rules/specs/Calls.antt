@@ -12,7 +12,7 @@ use Rattle.rules.specs.declared.Pixel.{Pixel}
 use Rattle.rules.specs.declared.Triple.{Triple}
 use Rattle.rules.specs.Refusal.{then}
 use Rattle.rules.specs.Result.{Result, single}
-use Rattle.rules.specs.Setting.{lastOf, codeAt, settingCheck, codeCheck}
+use Rattle.rules.specs.Setting.{lastOf, codeAt, settingCheck, acesCheck, codeCheck}
 use Rattle.rules.specs.Exact.{scaleOf}
 use Rattle.rules.specs.Encoding.{IsNearest, TwoThirds, numberAt, codeBy, sceneCheck}
 use Rattle.rules.specs.Float.{floatOf, floatCheck, unitsOf, IsFloat}
@@ -24,7 +24,7 @@ abbrev pub floatsCheck : (x y z : Float) → Check
 floatsCheck x y z = then (floatCheck x) (then (floatCheck y) (floatCheck z))
 
 module _ (number : Setting → ℕ → ℤ) (s : Setting) where
-  -- decoding one code: 3, 4, 5, then 6
+  -- decoding one code: 3, 4, 5, then 11 and 6
   abbrev pub decodeBy : ℕ → Result ℤ
   decodeBy n = single (then (settingCheck s) (codeCheck s n)) (number s n ∷ [])
 
@@ -40,11 +40,11 @@ module _ (number : Setting → ℕ → ℤ) (s : Setting) where
     pub nearest : IsNearest (numberAt number s) (lastOf s) x step
     pub two-thirds : TwoThirds (scaleOf s) x step
 
-  -- the way back over one record: 3, 4, 5, then 10
+  -- the way back over one record: 3, 4, 5, 12, then 10
   abbrev pub wayBackBy : Triple → Result ℕ
-  wayBackBy a = single (then (settingCheck s) (foundCheck (pixelBy number s a))) (codesFound (pixelBy number s a))
+  wayBackBy a = single (then (acesCheck s) (foundCheck (pixelBy number s a))) (codesFound (pixelBy number s a))
 
-  -- "Decoding one pixel answers either that float pixel or a refusal number": 3, 4, 5, then 6 for red, green and blue
+  -- "Decoding one pixel answers either that float pixel or a refusal number": 3, 4, 5, then 11 and 6 for red, green and blue
   abbrev pub decodeFloatsBy : Pixel → Result Float
   decodeFloatsBy p =
       single (then (settingCheck s) (codesCheck s p)) (floatOf (number s (p .red .0)) ∷ floatOf (number s (p .green .0)) ∷ floatOf (number s (p .blue .0)) ∷ [])

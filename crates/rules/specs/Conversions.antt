@@ -10,7 +10,7 @@ use Rattle.rules.specs.declared.Pixel.{Pixel}
 use Rattle.rules.specs.declared.Found.{Found}
 use Rattle.rules.specs.declared.Found as found
 use Rattle.rules.specs.Refusal.{then}
-use Rattle.rules.specs.Setting.{settingCheck, codeCheck}
+use Rattle.rules.specs.Setting.{settingCheck, acesCheck, codeCheck}
 use Rattle.rules.specs.Encoding.{codeBy, sceneCheck}
 use Rattle.rules.specs.Pixels.{pixel, acesBy}
 use Rattle.rules.specs.Record.{toBits, ofBits, sizeOf, codeBytes, numberBytes, settingOf, channelAt, recordOf, pixelIn, pixelRecord, tripleIn, acesRecord}
@@ -67,7 +67,7 @@ module _ (number : Setting → ℕ → ℤ) where
       record {
         from = sizeOf codeBytes;
         to = sizeOf numberBytes;
-        setting = settingCheck;
+        setting = acesCheck;
         inner = λ r. channelChecks codeBytes (codeCheck (settingOf r)) r;
         bytes = λ r. acesRecord (settingOf r) (acesBy number (settingOf r) (pixelIn r));
       }
@@ -78,7 +78,7 @@ module _ (number : Setting → ℕ → ℤ) where
       record {
         from = sizeOf numberBytes;
         to = sizeOf codeBytes;
-        setting = settingCheck;
+        setting = acesCheck;
         inner = λ r. foundCheck (pixelBy number (settingOf r) (tripleIn r));
         bytes = λ r. pixelRecord (settingOf r) (pixelFound (pixelBy number (settingOf r) (tripleIn r)));
       }

@@ -1,10 +1,11 @@
--- 01, "Curve 4" and "Curve 3": the formulas, with their exact decimals.
+-- 01, "Curve 4" and "Curve 3", and 02, item 3: the formulas, with their exact decimals.
 -- Assumes nothing.
 use mathlib.Core.Bool.{Bool, true, false}
 use mathlib.Core.List.{List, [], _∷_}
 use Prim.Native.Nat.{ℕ}
 use lib.Dec.{eqb}
 use lib.IntN.{ℤ, pos}
+use Rattle.whole.specs.Parts.{minus}
 use Rattle.rules.specs.Choice.{choose}
 use Rattle.rules.specs.Fraction.{Fraction, ratio, whole, millionths, signedMillionths, _+ℚ_, _-ℚ_, _*ℚ_, _/ℚ_, atMost}
 
@@ -18,7 +19,7 @@ pub record Constants : Type 0 where
   pub e : ℕ
   pub f : ℤ
 
--- curve 4; and a curve whose constants change with the EI, as curve 3
+-- curve 4; and a curve with a toe, whose constants change with the EI, as curves 2 and 3 are
 pub data Curve : Type 0 where
   logC4 : Curve
   logC : Constants → Curve
@@ -45,6 +46,27 @@ logC3Rows =
     ∷ logC3Row 1000 0_011361 0_047996 0_244161 0_386036 5_301883 0_092814
     ∷ logC3Row 1280 0_012235 0_043137 0_240810 0_386590 5_229121 0_092819
     ∷ logC3Row 1600 0_013047 0_038625 0_237781 0_387093 5_163350 0_092824
+    ∷ []
+
+-- 02, item 3: "Add curve 2 from the SUP 2.x table in source document 001 (normalised sensor value, eleven EI values ..)": its cut is
+-- 0.003907 and its d 0.391007 at every EI, and its b and f are below 0. | EI | a | b | c | e | f |
+abbrev pub logC2Row : (ei a b c e f : ℕ) → Row
+logC2Row ei a b c e f =
+    record { ei = ei; numbers = record { a = a; cut = 0_003907; b = minus b; c = c; d = 0_391007; e = e; f = minus f } }
+
+abbrev pub logC2Rows : List Row
+logC2Rows =
+    logC2Row 160 36_439829 0_053366 0_269035 45_593473 0_069772
+    ∷ logC2Row 200 45_549786 0_088959 0_266007 55_709581 0_106114
+    ∷ logC2Row 250 56_937232 0_133449 0_262978 67_887153 0_150510
+    ∷ logC2Row 320 72_879657 0_195737 0_259627 84_167616 0_210597
+    ∷ logC2Row 400 91_099572 0_266922 0_256598 101_811426 0_276349
+    ∷ logC2Row 500 113_874465 0_355903 0_253569 122_608379 0_354421
+    ∷ logC2Row 640 145_759315 0_480477 0_250218 149_703304 0_456760
+    ∷ logC2Row 800 182_199144 0_622848 0_247189 178_216873 0_564981
+    ∷ logC2Row 1000 227_748930 0_800811 0_244161 210_785040 0_689043
+    ∷ logC2Row 1280 291_518630 1_049959 0_240810 251_689459 0_845336
+    ∷ logC2Row 1600 364_398287 1_334700 0_237781 293_073575 1_003841
     ∷ []
 
 abbrev pub noConstants : Constants

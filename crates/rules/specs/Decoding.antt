@@ -1,4 +1,5 @@
--- 01, "Decoding": what a decoded number is. In units: a scene number y stands for y * 2^-24.
+-- 01, "Decoding": what a decoded number is. In units: a scene number y stands for y * 2^-24. 02, item 3, of curve 2: "Decoding and encoding
+-- follow the same formula, exact decimals and bounds, in units of sensor value."
 -- Assumes nothing.
 use mathlib.Core.Bool.{Bool, true, false}
 use mathlib.Core.Path.{_≡_}

@@ -1,4 +1,4 @@
--- 01, "Curve 4", "Curve 3", "Decoding": a fraction compared with the exact value at a step. The step may be a fraction too.
+-- 01, "Curve 4", "Curve 3", "Decoding", and 02, item 3: a fraction compared with the exact value at a step. The step may be a fraction too.
 -- Assumes nothing.
 use mathlib.Core.Bool.{Bool, true, false}
 use Prim.Native.Nat.{ℕ}

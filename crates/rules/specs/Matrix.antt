@@ -3,11 +3,12 @@
 use mathlib.Core.List.{List, [], _∷_}
 use mathlib.Core.Path.{_≡_}
 use Prim.Native.Nat.{ℕ, _^_}
-use lib.IntN.{ℤ, pos, negℤ, _+ℤ_, _*ℤ_}
+use lib.IntN.{ℤ, pos, _+ℤ_, _*ℤ_}
 use lib.ListN.{getD}
+use Rattle.whole.specs.Parts.{minus}
 use Rattle.rules.specs.declared.Setting.{Setting}
 use Rattle.rules.specs.declared.CurveName.{CurveName}
-use Rattle.rules.specs.declared.CurveName.the-variants.{LogC3, LogC4, Unknown}
+use Rattle.rules.specs.declared.CurveName.the-variants.{LogC2, LogC3, LogC4, Unknown}
 use Rattle.rules.specs.Setting.{named}
 use Rattle.rules.specs.Fraction.{integer, whole, _/ℚ_, nearest}
 
@@ -15,9 +16,6 @@ use Rattle.rules.specs.Fraction.{integer, whole, _/ℚ_, nearest}
 pub record Matrix : Type 0 where
   pub rows : List (List ℤ)
   pub scale : ℕ
-
-abbrev pub minus : ℕ → ℤ
-minus n = negℤ (pos n)
 
 -- "Curve 4, scale 10^18 (source document 002)"
 abbrev pub logC4Matrix : Matrix
@@ -43,11 +41,12 @@ logC3Matrix =
       scale = 10 ^ 6;
     }
 
--- of a setting that is not valid
+-- of curve 2, 02, item 3: "The paper publishes no ACES matrix for this raw colour space"; and of no curve
 abbrev pub noMatrix : Matrix
 noMatrix = record { rows = []; scale = 1 }
 
 abbrev pub matrixFor : CurveName → Matrix
+matrixFor LogC2 = noMatrix
 matrixFor LogC3 = logC3Matrix
 matrixFor LogC4 = logC4Matrix
 matrixFor Unknown = noMatrix

@@ -4,7 +4,7 @@ use mathlib.Core.Bool.{Bool}
 use Prim.Native.Nat.{ℕ}
 use Rattle.rules.specs.Choice.{choose}
 use Rattle.rules.specs.declared.Refusal.{Refusal}
-use Rattle.rules.specs.declared.Refusal.the-variants.{PartialRecord, ShortOutput, UnknownCurve, UnknownWidth, UnknownEi, CodeAboveTop, SceneOutOfRange, FloatNotFinite, FloatOutOfRange, NoPixel, CodeBelowFirst}
+use Rattle.rules.specs.declared.Refusal.the-variants.{PartialRecord, ShortOutput, UnknownCurve, UnknownWidth, UnknownEi, CodeAboveTop, SceneOutOfRange, FloatNotFinite, FloatOutOfRange, NoPixel, CodeBelowFirst, NoMatrix}
 use Rattle.rules.specs.declared.Check.{Check}
 use Rattle.rules.specs.declared.Check.the-variants.{Passed, Refused}
 
@@ -13,7 +13,7 @@ abbrev pub numberOf : Refusal → ℕ
 numberOf PartialRecord = 1
 -- strips: output shorter than the records need
 numberOf ShortOutput = 2
--- setting: curve is neither 3 nor 4
+-- setting: curve is neither 3 nor 4; 02, item 3: "Curve 2 joins the curves that 3 lets pass."
 numberOf UnknownCurve = 3
 -- setting: width not one of the curve's
 numberOf UnknownWidth = 4
@@ -31,6 +31,8 @@ numberOf FloatOutOfRange = 9
 numberOf NoPixel = 10
 -- 02, item 1: "a code below 256 at width 140, checked in the channel just before 6"
 numberOf CodeBelowFirst = 11
+-- 02, item 3: "curve 2 in a conversion to or from ACES, checked after 5"
+numberOf NoMatrix = 12
 
 -- the second check's answer where the first passes
 abbrev pub then : Check → Check → Check

@@ -1,4 +1,4 @@
--- 01, "Records and settings": the settings there are, their checks, and their codes.
+-- 01, "Records and settings", and 02, items 1 to 3: the settings there are, their checks, and their codes.
 -- Assumes nothing.
 use mathlib.Core.Bool.{Bool, true, false}
 use mathlib.Core.List.{List, [], _∷_, map}
@@ -7,39 +7,44 @@ use Prim.Native.Nat.{ℕ, _+_, _-_, _*_, _/_, _^_}
 use lib.Dec.{eqb, leb}
 use Rattle.rules.specs.declared.Setting.{Setting}
 use Rattle.rules.specs.declared.CurveName.{CurveName}
-use Rattle.rules.specs.declared.CurveName.the-variants.{LogC3, LogC4, Unknown}
+use Rattle.rules.specs.declared.CurveName.the-variants.{LogC2, LogC3, LogC4, Unknown}
 use Rattle.rules.specs.declared.Check.{Check}
 use Rattle.rules.specs.declared.Check.the-variants.{Passed}
-use Rattle.rules.specs.declared.Refusal.the-variants.{UnknownCurve, UnknownWidth, UnknownEi, CodeAboveTop, CodeBelowFirst}
+use Rattle.rules.specs.declared.Refusal.the-variants.{UnknownCurve, UnknownWidth, UnknownEi, CodeAboveTop, CodeBelowFirst, NoMatrix}
 use Rattle.rules.specs.Choice.{choose, member}
 use Rattle.rules.specs.Refusal.{then, refuseUnless}
-use Rattle.rules.specs.Curve.{Curve, logC4, logC, Row, logC3Rows, noConstants, constantsAt}
+use Rattle.rules.specs.Curve.{Curve, logC4, logC, Row, logC2Rows, logC3Rows, noConstants, constantsAt}
 
 -- ---- the curve that a number names, and what there is for each. Everything else goes by its cases.
 
--- "Curve is 3 or 4."
+-- "Curve is 3 or 4."; 02, item 3: "Curve 2 joins the curves that 3 lets pass."
 abbrev pub named : ℕ → CurveName
-named n = choose (eqb n 3) LogC3 (choose (eqb n 4) LogC4 Unknown)
+named n = choose (eqb n 2) LogC2 (choose (eqb n 3) LogC3 (choose (eqb n 4) LogC4 Unknown))
 
 abbrev pub known : CurveName → Bool
+known LogC2 = true
 known LogC3 = true
 known LogC4 = true
 known Unknown = false
 
--- "Curve 3 has widths 10, 12, 16 .. Curve 4 has widths 12 and 16"; 02, item 1: "Add width byte 140 for curve 4"
+-- "Curve 3 has widths 10, 12, 16 .. Curve 4 has widths 12 and 16"; 02, item 1: "Add width byte 140 for curve 4"; item 3, of curve 2:
+-- "widths 10 and 12 only"
 abbrev pub widthsOf : CurveName → List ℕ
+widthsOf LogC2 = 10 ∷ 12 ∷ []
 widthsOf LogC3 = 10 ∷ 12 ∷ 16 ∷ []
 widthsOf LogC4 = 12 ∷ 16 ∷ 140 ∷ []
 widthsOf Unknown = []
 
--- ".. and EI 160, 200, .." (those of the table of constants), ".. and EI 0"
+-- ".. and EI 160, 200, .." (those of the table of constants), ".. and EI 0"; of curve 2 "eleven EI values", those of its table
 abbrev pub eisOf : CurveName → List ℕ
+eisOf LogC2 = map (λ (r : Row). r .ei) logC2Rows
 eisOf LogC3 = map (λ (r : Row). r .ei) logC3Rows
 eisOf LogC4 = 0 ∷ []
 eisOf Unknown = []
 
 -- the curve at an EI. (No valid setting is of an unknown one.)
 abbrev pub curveAt : CurveName → (ei : ℕ) → Curve
+curveAt LogC2 ei = logC (constantsAt ei logC2Rows)
 curveAt LogC3 ei = logC (constantsAt ei logC3Rows)
 curveAt LogC4 ei = logC4
 curveAt Unknown ei = logC noConstants
@@ -57,6 +62,20 @@ settingCheck s =
 -- "A setting is valid where it passes the table's setting checks."
 abbrev pub Valid : Setting → Type 0
 Valid s = settingCheck s ≡ Passed
+
+-- ---- 02, item 3, refusal 12: "curve 2 in a conversion to or from ACES, checked after 5"
+abbrev pub hasMatrix : CurveName → Bool
+hasMatrix LogC2 = false
+hasMatrix LogC3 = true
+hasMatrix LogC4 = true
+hasMatrix Unknown = false
+
+unfoldable pub acesCheck : Setting → Check
+acesCheck s = then (settingCheck s) (refuseUnless (hasMatrix (named (s .curve))) NoMatrix)
+
+-- 02, item 3: "there a setting of curve 2 isn't valid"
+abbrev pub ValidForAces : Setting → Type 0
+ValidForAces s = acesCheck s ≡ Passed
 
 -- ---- the codes of a setting. They are numbered by steps from 0: all that is said of a curve is said of steps.
 

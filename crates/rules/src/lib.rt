@@ -9,6 +9,7 @@ pub struct Setting {
 
 // The curve that a setting names.
 pub enum CurveName {
+    LogC2,
     LogC3,
     LogC4,
     Unknown,
@@ -20,7 +21,7 @@ pub struct Code(pub u16);
 // A step: the place of a code among the codes of its setting, from 0.
 pub struct Step(pub u64);
 
-// A scene number, in units of 2^-24.
+// A scene number, in units of 2^-24. Of curve 2 it is a sensor value.
 pub struct Scene(pub i64);
 
 // An ACES number, in units of 2^-24.
@@ -65,6 +66,7 @@ pub enum Refusal {
     FloatOutOfRange,
     NoPixel,
     CodeBelowFirst,
+    NoMatrix,
 }
 
 // What a check answers.

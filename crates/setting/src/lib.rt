@@ -1,12 +1,14 @@
 // The checks of a setting and of a code, the top code of a width, the steps of codes, and the numbers of the refusals.
 ghost use mathlib.Core.Path.{_≡_};
 ghost use Rattle.rules.specs.Refusal.{numberOf, then, refuseUnless};
-ghost use Rattle.rules.specs.declared.Refusal.the-variants.{UnknownWidth, UnknownEi};
+ghost use Rattle.rules.specs.declared.Refusal.the-variants.{UnknownWidth, UnknownEi, NoMatrix};
 ghost use Rattle.rules.specs.Pixels.{eachCode, codesCheck};
 ghost use Prim.Native.Nat.{_≤_};
 ghost use Rattle.rules.specs.declared.Check.the-variants.{Passed};
-ghost use Rattle.rules.specs.Setting.{topOf, codesOf, lastOf, codeAt, stepOf, settingCheck, codeBetween, codeCheck, Valid};
+ghost use Rattle.rules.specs.Setting.{topOf, codesOf, lastOf, codeAt, stepOf, named, hasMatrix, settingCheck, acesCheck, codeBetween, codeCheck, Valid};
 ghost use Rattle.setting.specs.Same.{sameSetting};
+use curves::log_c::LogC;
+use curves::log_c2::LogC2;
 use curves::log_c3::LogC3;
 use curves::log_c4::LogC4;
 use rules::Check;
@@ -33,6 +35,7 @@ pub fn refusal_number(r: Refusal) -> u8
         Refusal::FloatOutOfRange => 9,
         Refusal::NoPixel => 10,
         Refusal::CodeBelowFirst => 11,
+        Refusal::NoMatrix => 12,
     }
 }
 
@@ -54,10 +57,41 @@ pub fn check_setting(s: Setting) -> Check
     ensures { λ r. ⌜ r ≡ settingCheck s ⌝ }
 {
     match curves::name_of(s.curve) {
-        CurveName::LogC3 => check_limits(LogC3::has_width(s.width), LogC3::has_ei(s.ei)),
+        CurveName::LogC2 => check_limits(LogC2::has_width(s.width), LogC::has_ei(s.ei)),
+        CurveName::LogC3 => check_limits(LogC3::has_width(s.width), LogC::has_ei(s.ei)),
         CurveName::LogC4 => check_limits(LogC4::has_width(s.width), LogC4::has_ei(s.ei)),
         CurveName::Unknown => Check::Refused(Refusal::UnknownCurve),
     }
+}
+
+// Refusal 12.
+fn check_matrix(s: Setting) -> Check
+    ensures { λ r. ⌜ r ≡ refuseUnless (hasMatrix (named (s .curve))) NoMatrix ⌝ }
+{
+    if curves::has_matrix(s.curve) {
+        Check::Passed
+    } else {
+        Check::Refused(Refusal::NoMatrix)
+    }
+}
+
+// The second check's answer where the first passes.
+fn first_refusal(first: Check, second: Check) -> Check
+    ensures { λ r. ⌜ r ≡ then first second ⌝ }
+{
+    match first {
+        Check::Passed => second,
+        Check::Refused(why) => Check::Refused(why),
+    }
+}
+
+// Refusals 3, 4 and 5, then 12: the checks of a setting in a conversion to or from ACES.
+pub fn check_for_aces(s: Setting) -> Check
+    ensures { λ r. ⌜ r ≡ acesCheck s ⌝ }
+{
+    let setting = check_setting(s);
+    let matrix = check_matrix(s);
+    first_refusal(setting, matrix)
 }
 
 // The top code of a width of 1 to 16 bits, two to the width, less one. 0 for any other number. (Of width 0 the
