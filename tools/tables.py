@@ -19,35 +19,40 @@ getcontext().prec = 120
 
 
 def constants(module):
-    """the associated constants of a curve's type: its numbers, its lists, and its rows of named numbers by EI"""
+    """the associated constants of a curve's type: its numbers, its lists, and its rows of named numbers by EI. A row may name a number."""
     text = (ROOT / f"crates/curves/src/{module}.rt").read_text()
     number = lambda x: int(x.replace("_", ""))
     out = {name: number(x) for name, x in re.findall(r"pub const (\w+): \w+ = ([\d_]+);", text)}
     for name, xs in re.findall(r"pub const (\w+): \[\w+; \d+\] = \[([\d, ]+)\];", text):
         out[name] = [number(x) for x in xs.split(",")]
+    value = lambda x: number(x) if x[-1].isdigit() else out[x.split("::")[1]]
     rows = re.findall(r"pub const EI_(\d+): \w+ = \w+ \{([^}]*)\}", text)
-    out["rows"] = {int(ei): {k: number(x) for k, x in re.findall(r"(\w+): ([\d_]+),", row)} for ei, row in rows}
+    out["rows"] = {int(ei): {k: value(x) for k, x in re.findall(r"(\w+): ([-\w:]+),", row)} for ei, row in rows}
     return out
 
 
 class Curve:
     """exponent (rise * t + plus - minus) / over, and (base ^ exponent - less) * times / timesOver, of a signal t"""
 
-    def __init__(self, name, ei, widths, base, rise, plus, minus, over, times, times_over):
-        self.name, self.ei, self.widths, self.base = name, ei, widths, base
+    def __init__(self, name, number, widths, base, rise, plus, minus, over, times, times_over):
+        self.name, self.number, self.widths, self.base = name, number, widths, base
         self.rise, self.plus, self.minus, self.over = rise, plus, minus, over
         self.times, self.times_over = times, times_over
 
 
+def with_toe(number):
+    """a curve with a toe, 2 or 3, at each EI"""
+    k = constants(f"log_c{number}")
+    assert len(k["rows"]) == constants("log_c")["ROWS"], k["rows"]
+    return [Curve(f"LOGC{number}_EI{ei}", number, k["WIDTHS"], 10, 10 ** 6, 0, row["d"], row["c"], 10 ** 6, row["a"]) for ei, row in k["rows"].items()]
+
+
 def curves():
-    c4, c3 = constants("log_c4"), constants("log_c3")
-    assert len(c3["rows"]) == c3["ROWS"], c3["rows"]
+    """curve 4, and each curve with a toe at each of its EIs"""
+    c4 = constants("log_c4")
     plus, minus = c4["BEGIN"] * c4["RANGE"], c4["STOPS"] * c4["BLACK"]
     rise = c4["STOPS"] * c4["WHITE"]
-    out = [Curve("LOGC4", None, c4["WIDTHS"], 2, rise, plus, minus, c4["RANGE"], c4["TIMES"], c4["OVER"])]
-    for ei, k in c3["rows"].items():
-        out.append(Curve(f"EI{ei}", ei, c3["WIDTHS"], 10, 10 ** 6, 0, k["d"], k["c"], 10 ** 6, c3["A"]))
-    return out
+    return [Curve("LOGC4", 4, c4["WIDTHS"], 2, rise, plus, minus, c4["RANGE"], c4["TIMES"], c4["OVER"])] + with_toe(2) + with_toe(3)
 
 
 def not_above(base, q, m, front, y):
@@ -112,7 +117,7 @@ def table(curve, width, front, first, ratio):
 
 
 def written():
-    seeds, consts = [], []
+    seeds, consts = {2: [], 3: [], 4: []}, []
     for c in curves():
         front, first = seed(c.base, c.over, c.plus + LIFT * c.over - c.minus)
         ratios = ""
@@ -122,7 +127,7 @@ def written():
             ratios += f"at {w} {ratio} ∷ "
             entries = "".join(f"    {x},\n" for x in table(c, w, front, first, ratio))
             consts.append(f"\npub const {c.name}_W{w}: [u64; 128] = [\n{entries}];\n")
-        seeds.append(f"seed {front} {first} ({ratios}[])")
+        seeds[c.number].append(f"seed {front} {first} ({ratios}[])")
     antt = (
         "-- The numbers that the tables are computed from. Written by tools/tables.py.\n"
         "-- Assumes nothing.\n"
@@ -144,11 +149,13 @@ def written():
         "seed front first ratios = record { front = front; first = first; ratios = ratios }\n"
         "\n"
         "abbrev pub logC4Seed : Seed\n"
-        f"logC4Seed = {seeds[0]}\n"
+        f"logC4Seed = {seeds[4][0]}\n"
         "\n"
-        "-- curve 3: one for each row of its constants\n"
-        "abbrev pub logC3Seeds : List Seed\n"
-        "logC3Seeds =\n    " + "\n    ∷ ".join(seeds[1:]) + "\n    ∷ []\n"
+        "-- a curve with a toe: one for each row of its constants\n"
+        + "\n".join(
+            f"abbrev pub logC{number}Seeds : List Seed\nlogC{number}Seeds =\n    " + "\n    ∷ ".join(seeds[number]) + "\n    ∷ []\n"
+            for number in (2, 3)
+        )
     )
     rt = "// The tables of the curves, one for each setting. Written by tools/tables.py.\n" + "".join(consts)
     return {"crates/curve_table/specs/Seeds.antt": antt, "crates/curve_table/src/values.rt": rt, "crates/nearest_code/src/log_line.rt": lines()}
@@ -162,16 +169,33 @@ def line(curve):
     return round(slope * 2 ** 32), round(start * 2 ** 48)
 
 
-def lines():
-    consts, arms = "", ""
-    for i, c in enumerate(curves()):
-        name = "LOG_C4" if c.ei is None else c.name
-        slope, start = line(c)
-        consts += f"    pub const {name}: LogLine = LogLine {{\n        slope: {slope},\n        start: {start},\n    }};\n\n"
-        arms += f"            {i - 1} => LogLine::{name},\n" if i else ""
+def by_row(number, names):
+    """the function that gives the line of a row of a curve's constants"""
+    arms = "".join(f"            {row} => LogLine::{name},\n" for row, name in enumerate(names))
     return (
-        "// The lines of the guess, one for each curve. Written by tools/tables.py.\n"
+        f"    // The line of a row of curve {number}'s constants.\n"
+        f"    fn log_c{number}(row: usize) -> LogLine\n"
+        "        ensures { λ k. ⌜ k .slope < 2 ^ 29 ⌝ }\n"
+        "    {\n"
+        "        match row {\n"
+        f"{arms}"
+        "            _ => LogLine::NONE,\n"
+        "        }\n"
+        "    }\n\n"
+    )
+
+
+def lines():
+    consts, names = "", {2: [], 3: [], 4: []}
+    for c in curves():
+        slope, start = line(c)
+        consts += f"    pub const {c.name}: LogLine = LogLine {{\n        slope: {slope},\n        start: {start},\n    }};\n\n"
+        names[c.number].append(c.name)
+    return (
+        "// The lines of the guess, one for each curve, and for each EI of a curve with a toe. Written by tools/tables.py.\n"
         "ghost use Prim.Native.Nat.{_^_, _<_};\n"
+        "use curves::log_c::LogC;\n"
+        "use curves::log_c2::LogC2;\n"
         "use curves::log_c3::LogC3;\n"
         "use curves::log_c4::LogC4;\n"
         "use rules::Setting;\n"
@@ -184,15 +208,8 @@ def lines():
         f"{consts}"
         "    // of no curve\n"
         "    pub const NONE: LogLine = LogLine { slope: 0, start: 0 };\n\n"
-        "    // The line of a row of curve 3's constants.\n"
-        "    fn log_c3(row: usize) -> LogLine\n"
-        "        ensures { λ k. ⌜ k .slope < 2 ^ 29 ⌝ }\n"
-        "    {\n"
-        "        match row {\n"
-        f"{arms}"
-        "            _ => LogLine::NONE,\n"
-        "        }\n"
-        "    }\n\n"
+        f"{by_row(2, names[2])}"
+        f"{by_row(3, names[3])}"
         "    // The line of a setting. (It goes by the curve's number: to name the curve first took 4 % of the\n"
         "    // way back's time.)\n"
         "    pub fn of(s: Setting) -> LogLine\n"
@@ -200,8 +217,9 @@ def lines():
         "    {\n"
         "        let curve = s.curve;\n"
         "        match curve {\n"
-        "            LogC3::NUMBER => LogLine::log_c3(LogC3::row(s.ei)),\n"
-        "            LogC4::NUMBER => LogLine::LOG_C4,\n"
+        "            LogC2::NUMBER => LogLine::log_c2(LogC::row(s.ei)),\n"
+        "            LogC3::NUMBER => LogLine::log_c3(LogC::row(s.ei)),\n"
+        "            LogC4::NUMBER => LogLine::LOGC4,\n"
         "            _ => LogLine::NONE,\n"
         "        }\n"
         "    }\n"

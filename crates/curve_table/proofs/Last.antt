@@ -5,10 +5,10 @@ use mathlib.Core.Path.{_≡_, refl}
 use Prim.Native.Nat.{ℕ, zero, suc, _≤_}
 use native.Mathlib.Omega.{arith}
 use lib.ListN.{length}
-use Rattle.rules.specs.Curve.{Row, logC3Rows}
+use Rattle.rules.specs.Curve.{Row}
 use Rattle.curves.proofs.Rows.{NoneOf, at-least}
-use Rattle.curve_table.specs.Seeds.{Seed, logC3Seeds}
-use Rattle.curve_table.specs.Table.{noTable, tableIn, logC3Table}
+use Rattle.curve_table.specs.Seeds.{Seed}
+use Rattle.curve_table.specs.Table.{noTable, tableIn}
 
 beyond : (width row : ℕ) (rs : List Row) (ss : List Seed) → length rs ≤ row → noTable ≡ tableIn width row rs ss
 beyond width row [] ss h = refl
@@ -16,6 +16,5 @@ beyond width row (r ∷ rs) [] h = refl
 beyond width zero (r ∷ rs) (s ∷ ss) h = absurd (omega arith)
 beyond width (suc row) (r ∷ rs) (s ∷ ss) h = beyond width row rs ss (omega arith)
 
-pub no-row : (width row : ℕ) → NoneOf 11 row → noTable ≡ logC3Table width row
-unfolding logC3Table
-no-row width row h = beyond width row logC3Rows logC3Seeds (at-least 11 row h)
+pub no-row : (width row : ℕ) (rs : List Row) (ss : List Seed) → length rs ≡ 11 → NoneOf 11 row → noTable ≡ tableIn width row rs ss
+no-row width row rs ss e h = beyond width row rs ss (omega (arith, e, at-least 11 row h))

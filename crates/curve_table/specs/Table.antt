@@ -7,12 +7,12 @@ use lib.Dec.{eqb}
 use Rattle.rules.specs.Choice.{choose}
 use Rattle.rules.specs.declared.Setting.{Setting}
 use Rattle.rules.specs.declared.CurveName.{CurveName}
-use Rattle.rules.specs.declared.CurveName.the-variants.{LogC3, LogC4, Unknown}
-use Rattle.rules.specs.Curve.{Curve, logC4, logC, Row, logC3Rows, base, factor}
+use Rattle.rules.specs.declared.CurveName.the-variants.{LogC2, LogC3, LogC4, Unknown}
+use Rattle.rules.specs.Curve.{Curve, logC4, logC, Row, logC2Rows, logC3Rows, base, factor}
 use Rattle.rules.specs.Setting.{named, lastStep}
-use Rattle.curves.specs.LogC3.{rowOf}
+use Rattle.curves.specs.LogC.{rowOf}
 use Rattle.power.specs.Progression.{squareDown, progression}
-use Rattle.curve_table.specs.Seeds.{AtWidth, at, Seed, seed, logC4Seed, logC3Seeds}
+use Rattle.curve_table.specs.Seeds.{AtWidth, at, Seed, seed, logC4Seed, logC2Seeds, logC3Seeds}
 
 -- what a list has for a width, else a default
 abbrev pub forWidth : {A : Type 0} → A → (width : ℕ) → List (AtWidth A) → A
@@ -67,10 +67,14 @@ tableIn width n (r ∷ rs) [] = noTable
 tableIn width zero (r ∷ rs) (s ∷ ss) = tableWith (logC (r .numbers)) s width
 tableIn width (suc n) (r ∷ rs) (s ∷ ss) = tableIn width n rs ss
 
+unfoldable pub logC2Table : (width row : ℕ) → List ℕ
+logC2Table width row = tableIn width row logC2Rows logC2Seeds
+
 unfoldable pub logC3Table : (width row : ℕ) → List ℕ
 logC3Table width row = tableIn width row logC3Rows logC3Seeds
 
 abbrev tableFor : CurveName → (width ei : ℕ) → List ℕ
+tableFor LogC2 width ei = forWidth noTable width (at 10 (logC2Table 10 (rowOf ei)) ∷ at 12 (logC2Table 12 (rowOf ei)) ∷ [])
 tableFor LogC3 width ei =
     forWidth noTable width (at 10 (logC3Table 10 (rowOf ei)) ∷ at 12 (logC3Table 12 (rowOf ei)) ∷ at 16 (logC3Table 16 (rowOf ei)) ∷ [])
 tableFor LogC4 width ei = logC4Table width
@@ -89,6 +93,7 @@ seedIn zero (s ∷ ss) = s
 seedIn (suc n) (s ∷ ss) = seedIn n ss
 
 abbrev seedFor : CurveName → (ei : ℕ) → Seed
+seedFor LogC2 ei = seedIn (rowOf ei) logC2Seeds
 seedFor LogC3 ei = seedIn (rowOf ei) logC3Seeds
 seedFor LogC4 ei = logC4Seed
 seedFor Unknown ei = noSeed

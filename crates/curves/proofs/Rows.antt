@@ -1,16 +1,18 @@
--- The rows of curve 3's EIs: what stands at the row of an EI is what the rules give for the EI.
+-- The rows of the EIs of a curve with a toe: what stands at the row of an EI is what the rules give for the EI.
 -- Assumes nothing.
 use mathlib.Core.Bool.{Bool, true, false}
 use mathlib.Core.List.{List, [], _∷_, map}
-use mathlib.Core.Path.{_≡_, refl, sym}
+use mathlib.Core.Path.{_≡_, refl, sym, ap, _∙_}
 use Prim.Native.Nat.{ℕ, zero, suc, _≤_, compare·suc-suc}
 use native.Mathlib.Omega.{arith}
 use borrow.Author.Tests.{lt-ltb}
 use lib.Dec.{eqb, ltb}
 use lib.ListN.{length}
 use Rattle.rules.specs.Choice.{choose, member}
-use Rattle.rules.specs.Curve.{Constants, Row, logC3Rows, noConstants, constantsAt}
-use Rattle.curves.specs.LogC3.{place, rowOf}
+use Rattle.rules.specs.Curve.{Constants, Row, noConstants, constantsAt}
+use Rattle.rules.specs.Setting.{eisOf}
+use Rattle.rules.specs.declared.CurveName.the-variants.{LogC3}
+use Rattle.curves.specs.LogC.{place, rowOf}
 
 -- ---- a number that is none of the first k, as a match on it says, is at least k
 abbrev pub NoneOf : ℕ → ℕ → Type 0
@@ -45,10 +47,10 @@ constants-at ei (r ∷ rs) = go (eqb ei (r .ei)) (constants-at ei rs)
     go true e = refl
     go false e = e
 
--- of the EI whose row is k
-pub constants-of : (ei k : ℕ) → k ≡ rowOf ei → constantsAt ei logC3Rows ≡ constantsIn k logC3Rows
+-- of the EI whose row is k, in a table that has these EIs
+pub constants-of : (rs : List Row) → map (λ (r : Row). r .ei) rs ≡ eisOf LogC3 → (ei k : ℕ) → k ≡ rowOf ei → constantsAt ei rs ≡ constantsIn k rs
 unfolding rowOf
-constants-of ei k e = rw e (constants-at ei logC3Rows)
+constants-of rs same ei k e = constants-at ei rs ∙ ap (λ (n : ℕ). constantsIn n rs) (ap (place ei) same ∙ sym e)
 
 pub constants-beyond : (n : ℕ) (rs : List Row) → length rs ≤ n → constantsIn n rs ≡ noConstants
 constants-beyond n [] h = refl

@@ -2,9 +2,10 @@
 -- Assumes nothing.
 use Prim.Native.Nat.{ℕ}
 use Rattle.rules.specs.declared.CurveName.{CurveName}
-use Rattle.rules.specs.declared.CurveName.the-variants.{LogC3, LogC4, Unknown}
+use Rattle.rules.specs.declared.CurveName.the-variants.{LogC2, LogC3, LogC4, Unknown}
 
 abbrev pub gapOf : CurveName → ℕ
+gapOf LogC2 = 9
 gapOf LogC3 = 28
 gapOf LogC4 = 28
 gapOf Unknown = 0

@@ -1,3 +1,3 @@
 pub mod Gap
-pub mod LogC3
+pub mod LogC
 pub mod LogC4

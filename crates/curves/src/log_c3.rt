@@ -1,31 +1,20 @@
-// Curve 3: its number, its widths, its EIs, and its constants at each EI, from the table of 01, in
-// millionths. b and f have a sign.
+// Curve 3: its number, its widths, and its constants at each EI, from the table of 01.
 ghost use mathlib.Core.Path.{_≡_};
 ghost use Rattle.rules.specs.Choice.{member};
 ghost use Rattle.rules.specs.declared.CurveName as named;
 ghost use Rattle.rules.specs.Curve.{constantsAt, logC3Rows};
-ghost use Rattle.rules.specs.Setting.{widthsOf, eisOf};
-ghost use Rattle.curves.specs.LogC3.{constantsOf, rowOf};
+ghost use Rattle.rules.specs.Setting.{widthsOf};
+ghost use Rattle.curves.specs.LogC.{constantsOf};
 use super::lists;
+use super::log_c::LogC;
 
-pub struct LogC3 {
-    pub a: u64,
-    pub cut: u64,
-    pub b: i64,
-    pub c: u64,
-    pub d: u64,
-    pub e: u64,
-    pub f: i64,
-}
+pub struct LogC3;
 
 impl LogC3 {
     pub const NUMBER: u8 = 3;
 
     // "Curve 3 has widths 10, 12, 16"
     pub const WIDTHS: [u8; 3] = [10, 12, 16];
-
-    // How many EIs there are.
-    pub const ROWS: usize = 11;
 
     // The decoded numbers of two codes are at least so many units apart. (At width 16 and EI 200 two
     // are 42.89 apart before they are rounded.)
@@ -34,7 +23,7 @@ impl LogC3 {
     // "Always a = 5.555556."
     pub const A: u64 = 5_555556;
 
-    pub const EI_160: LogC3 = LogC3 {
+    pub const EI_160: LogC = LogC {
         a: LogC3::A,
         cut: 0_005561,
         b: 0_080216,
@@ -44,7 +33,7 @@ impl LogC3 {
         f: 0_092778,
     };
 
-    pub const EI_200: LogC3 = LogC3 {
+    pub const EI_200: LogC = LogC {
         a: LogC3::A,
         cut: 0_006208,
         b: 0_076621,
@@ -54,7 +43,7 @@ impl LogC3 {
         f: 0_092782,
     };
 
-    pub const EI_250: LogC3 = LogC3 {
+    pub const EI_250: LogC = LogC {
         a: LogC3::A,
         cut: 0_006871,
         b: 0_072941,
@@ -64,7 +53,7 @@ impl LogC3 {
         f: 0_092786,
     };
 
-    pub const EI_320: LogC3 = LogC3 {
+    pub const EI_320: LogC = LogC {
         a: LogC3::A,
         cut: 0_007622,
         b: 0_068768,
@@ -74,7 +63,7 @@ impl LogC3 {
         f: 0_092791,
     };
 
-    pub const EI_400: LogC3 = LogC3 {
+    pub const EI_400: LogC = LogC {
         a: LogC3::A,
         cut: 0_008318,
         b: 0_064901,
@@ -84,7 +73,7 @@ impl LogC3 {
         f: 0_092795,
     };
 
-    pub const EI_500: LogC3 = LogC3 {
+    pub const EI_500: LogC = LogC {
         a: LogC3::A,
         cut: 0_009031,
         b: 0_060939,
@@ -94,7 +83,7 @@ impl LogC3 {
         f: 0_092800,
     };
 
-    pub const EI_640: LogC3 = LogC3 {
+    pub const EI_640: LogC = LogC {
         a: LogC3::A,
         cut: 0_009840,
         b: 0_056443,
@@ -104,7 +93,7 @@ impl LogC3 {
         f: 0_092805,
     };
 
-    pub const EI_800: LogC3 = LogC3 {
+    pub const EI_800: LogC = LogC {
         a: LogC3::A,
         cut: 0_010591,
         b: 0_052272,
@@ -114,7 +103,7 @@ impl LogC3 {
         f: 0_092809,
     };
 
-    pub const EI_1000: LogC3 = LogC3 {
+    pub const EI_1000: LogC = LogC {
         a: LogC3::A,
         cut: 0_011361,
         b: 0_047996,
@@ -124,7 +113,7 @@ impl LogC3 {
         f: 0_092814,
     };
 
-    pub const EI_1280: LogC3 = LogC3 {
+    pub const EI_1280: LogC = LogC {
         a: LogC3::A,
         cut: 0_012235,
         b: 0_043137,
@@ -134,7 +123,7 @@ impl LogC3 {
         f: 0_092819,
     };
 
-    pub const EI_1600: LogC3 = LogC3 {
+    pub const EI_1600: LogC = LogC {
         a: LogC3::A,
         cut: 0_013047,
         b: 0_038625,
@@ -144,17 +133,6 @@ impl LogC3 {
         f: 0_092824,
     };
 
-    // of an EI that is not one of the curve's
-    pub const NONE: LogC3 = LogC3 {
-        a: 0,
-        cut: 0,
-        b: 0,
-        c: 0,
-        d: 0,
-        e: 0,
-        f: 0,
-    };
-
     pub fn has_width(width: u8) -> bool
         ensures { λ r. ⌜ r ≡ member width (widthsOf named.CurveName.LogC3) ⌝ }
     {
@@ -162,38 +140,11 @@ impl LogC3 {
         lists::is_one_of(&widths, width)
     }
 
-    // The row of an EI in the table of constants, from 0, and their count where it has none. The one
-    // list of the EIs: what else there is for an EI is found by its row.
-    pub fn row(ei: u16) -> usize
-        ensures { λ r. ⌜ r ≡ rowOf ei ⌝ }
-    {
-        match ei {
-            160 => 0,
-            200 => 1,
-            250 => 2,
-            320 => 3,
-            400 => 4,
-            500 => 5,
-            640 => 6,
-            800 => 7,
-            1000 => 8,
-            1280 => 9,
-            1600 => 10,
-            _ => LogC3::ROWS,
-        }
-    }
-
-    pub fn has_ei(ei: u16) -> bool
-        ensures { λ r. ⌜ r ≡ member ei (eisOf named.CurveName.LogC3) ⌝ }
-    {
-        LogC3::row(ei) < LogC3::ROWS
-    }
-
     // The constants of an EI.
-    pub fn at(ei: u16) -> LogC3
+    pub fn at(ei: u16) -> LogC
         ensures { λ r. ⌜ constantsOf r ≡ constantsAt ei logC3Rows ⌝ }
     {
-        let row = LogC3::row(ei);
+        let row = LogC::row(ei);
         match row {
             0 => LogC3::EI_160,
             1 => LogC3::EI_200,
@@ -206,7 +157,7 @@ impl LogC3 {
             8 => LogC3::EI_1000,
             9 => LogC3::EI_1280,
             10 => LogC3::EI_1600,
-            _ => LogC3::NONE,
+            _ => LogC::NONE,
         }
     }
 }

@@ -16,8 +16,8 @@ use Rattle.rules.specs.Setting.{lastOf, stepOf, codesOf, codeCheck, Valid}
 use Rattle.rules.specs.Encoding.{sceneCheck}
 use Rattle.rules.proofs.Settings.{forSettings, for-valid}
 use Rattle.rules.proofs.Codes.{code-passed}
-use Rattle.curves.specs.LogC3.{rowOf}
-use Rattle.curve_table.specs.Table.{tableOf, logC3Table, logC4Table}
+use Rattle.curves.specs.LogC.{rowOf}
+use Rattle.curve_table.specs.Table.{tableOf, logC2Table, logC3Table, logC4Table}
 use Rattle.decode.specs.Decoded.{offset, rawBy, raw, decoded}
 use Rattle.decode.proofs.Theorems.{raw-rises}
 
@@ -26,7 +26,7 @@ abbrev test : Setting → Bool
 test s = leb (raw s (lastOf s)) (2 ^ 33)
 
 all-limited : T (forSettings (λ c w e. test (record { curve = c; width = w; ei = e })))
-unfolding tableOf logC3Table logC4Table rawBy rowOf codesOf
+unfolding tableOf logC2Table logC3Table logC4Table rawBy rowOf codesOf
 all-limited = tt
 
 last-limited : (s : Setting) → Valid s → raw s (lastOf s) ≤ 2 ^ 33

@@ -1,6 +1,6 @@
 -- What the functions ask: sizes, and that the numbers they compute are those of the definitions.
 -- Assumes nothing.
-use mathlib.Core.Path.{_≡_, refl, sym, ap, ap₂, _∙_}
+use mathlib.Core.Path.{_≡_, refl, sym, ap, ap₂, _∙_, subst}
 use mathlib.Core.Bool.{Bool, true, false}
 use mathlib.Core.List.{List, [], _∷_}
 use Prim.Native.Nat.{ℕ, _+_, _-_, _*_, _/_, _^_, _≤_, _<_}
@@ -17,9 +17,8 @@ use Rattle.whole.proofs.Tidy.{tidy}
 use Rattle.whole.proofs.Words.{fitsZ, readBack, read-back}
 use Rattle.rules.specs.Choice.{choose}
 use Rattle.rules.specs.Fraction.{Fraction}
-use Rattle.rules.specs.Curve.{Curve, Constants, logC, logC4, constantsAt, logC3Rows}
-use Rattle.rules.specs.declared.CurveName.the-variants.{LogC3}
-use Rattle.rules.specs.Setting.{named, codesOf, lastOf, curveOf, Valid}
+use Rattle.rules.specs.Curve.{Curve, Constants, logC, logC4}
+use Rattle.rules.specs.Setting.{codesOf, lastOf, curveOf, Valid}
 use Rattle.rules.specs.Exact.{Scale, scaleOf}
 use Rattle.rules.proofs.Codes.{last-small}
 use Rattle.rules.proofs.Settings.{forSettings, for-valid}
@@ -68,9 +67,8 @@ pub decoder-is-4 : (less times over bias : ℕ) → less ≡ 64 → times ≡ 78
 decoder-is-4 less times over bias l t o e = rw (e, l, t, o)
 
 -- ---- the scale of a setting
-pub scale-is : (s : Setting) (k : Constants) (last : ℕ) → named (s .curve) ≡ LogC3 → k ≡ constantsAt (s .ei) logC3Rows → last ≡ lastOf s
-    → _≡_ {A = Scale} (record { curve = logC k; last = last }) (scaleOf s)
-scale-is s k last e f g = rw (e, f, g)
+pub scale-is : (s : Setting) (k : Constants) (last : ℕ) → curveOf s ≡ logC k → last ≡ lastOf s → _≡_ {A = Scale} (record { curve = logC k; last = last }) (scaleOf s)
+scale-is s k last e f = cc
 
 -- ---- the constants of a valid setting are small
 smallTests : Constants → (last : ℕ) → List Bool
@@ -120,10 +118,10 @@ all-small : T (forSettings (λ c w e. curveTest (curveOf (record { curve = c; wi
 unfolding smallTests codesOf
 all-small = tt
 
-pub constants-small : (s : Setting) → Valid s → named (s .curve) ≡ LogC3 → Small (constantsAt (s .ei) logC3Rows) (lastOf s)
-constants-small s v e =
-    small-of (constantsAt (s .ei) logC3Rows) (lastOf s) (last-small s)
-    (rw e at (for-valid (λ c w e. curveTest (curveOf (record { curve = c; width = w; ei = e })) (lastOf (record { curve = c; width = w; ei = e }))) all-small s v))
+pub constants-small : (s : Setting) → Valid s → (k : Constants) → curveOf s ≡ logC k → Small k (lastOf s)
+constants-small s v k e =
+    small-of k (lastOf s) (last-small s)
+    (subst (λ (c : Curve). T (curveTest c (lastOf s))) e (for-valid (λ c w e. curveTest (curveOf (record { curve = c; width = w; ei = e })) (lastOf (record { curve = c; width = w; ei = e }))) all-small s v))
 
 -- ---- a number with its offset is small
 pub raw-small : {d : Decoder} {t : List ℕ} {n : ℕ} → Fits d t n → rawBy d t n < 2 ^ 62

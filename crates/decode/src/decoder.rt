@@ -5,11 +5,13 @@ ghost use Rattle.rules.specs.declared.Check.the-variants.{Passed};
 ghost use Rattle.rules.specs.Curve.{logC, logC4};
 ghost use Rattle.rules.specs.Setting.{codeCheck, Valid};
 ghost use Rattle.rules.specs.Exact.{scaleOf};
-ghost use Rattle.curves.specs.LogC3.{constantsOf};
+ghost use Rattle.curves.specs.LogC.{constantsOf};
 ghost use Rattle.curves.specs.LogC4.{IsLogC4};
 ghost use Rattle.decode.specs.Constants.{Small};
 ghost use Rattle.decode.specs.Decoded.{product, rawBy, decodedBy, decoded, decoderOf, Fits};
 ghost use Rattle.decode.specs.Ready.{Ready};
+use curves::log_c::LogC;
+use curves::log_c2::LogC2;
 use curves::log_c3::LogC3;
 use curves::log_c4::LogC4;
 use rules::Code;
@@ -102,7 +104,7 @@ impl Decoder {
     };
 
     // A curve with a toe, at a last step.
-    fn log_c(k: LogC3, last: u64) -> Decoder
+    fn log_c(k: LogC, last: u64) -> Decoder
         requires { ⌜ Small (constantsOf k) last ⌝ }
         ensures { λ r. ⌜ r ≡ decoderOf (record { curve = logC (constantsOf k); last = last }) ⌝ }
     {
@@ -137,6 +139,7 @@ impl Decoder {
         ensures { λ r. ⌜ r ≡ decoderOf (scaleOf s) ⌝ }
     {
         match curves::name_of(s.curve) {
+            CurveName::LogC2 => Decoder::log_c(LogC2::at(s.ei), setting::last_step(s).0),
             CurveName::LogC3 => Decoder::log_c(LogC3::at(s.ei), setting::last_step(s).0),
             CurveName::LogC4 => Decoder::log_c4(LogC4::new()),
             CurveName::Unknown => Decoder::NONE,

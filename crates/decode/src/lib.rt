@@ -36,7 +36,7 @@ fn decode_valid(s: Setting, n: Code) -> Decoding
     }
 }
 
-// The scene number of a code, or the refusal of the first check that fails: 3, 4, 5, then 6. The number is a decoded number in the rules'
+// The scene number of a code, or the refusal of the first check that fails: 3, 4, 5, then 11 and 6. The number is a decoded number in the rules'
 // sense.
 pub fn decode(s: Setting, n: Code) -> Decoding
     ensures { λ r. ⌜ decodingResult r ≡ decodeResult s (n .0) ⌝ }

@@ -70,7 +70,8 @@ fn decode_valid(s: Setting, p: Pixel) -> FloatDecoding
     }
 }
 
-// The float pixel of a pixel, or the refusal number of the first check that fails: 3, 4, 5, then 6 for red, green and blue.
+// The float pixel of a pixel, or the refusal number of the first check that fails: 3, 4, 5, then 11 and 6 for red, green
+// and blue.
 pub fn decode_pixel(s: Setting, p: Pixel) -> FloatDecoding
     ensures { λ a. ⌜ floatDecodingResult a ≡ decodePixelResult s p ⌝ }
     ensures { λ a. ⌜ Exact s p (floatDecodingResult a .values) ⌝ }

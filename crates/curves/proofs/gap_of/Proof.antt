@@ -11,4 +11,5 @@ gap-of-spec =
     (tie.spec
     (λ c. (rw (c .match .keys1), lit< tt))
     (λ c. (rw (c .match .keys2), lit< tt))
-    (λ c. (rw (ne-eqb _ 3 (c .match .rest .0 .1), ne-eqb _ 4 (c .match .rest .1)), lit< tt)))
+    (λ c. (rw (c .match .keys3), lit< tt))
+    (λ c. (rw (ne-eqb _ 2 (c .match .rest .0 .0 .1), ne-eqb _ 3 (c .match .rest .0 .1), ne-eqb _ 4 (c .match .rest .1)), lit< tt)))

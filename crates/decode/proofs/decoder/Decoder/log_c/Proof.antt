@@ -8,7 +8,7 @@ use Rattle.whole.specs.Parts.{up, dn}
 use Rattle.whole.proofs.Reflect.{at}
 use Rattle.whole.proofs.Words.{fitsZ, readBack, read-back}
 use borrow.Author.Needs.{needs}
-use Rattle.curves.specs.LogC3.{constantsOf}
+use Rattle.curves.specs.LogC.{constantsOf}
 use Rattle.decode.proofs.Program.{decoder-is}
 use Rattle.decode.proofs.decoder.Decoder.log_c.Statement.{statement}
 use Rattle.decode.proofs.decoder.Decoder.log_c.Tie as tie

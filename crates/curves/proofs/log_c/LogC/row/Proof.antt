@@ -1,9 +1,9 @@
--- `LogC3::row` meets its contract: the arms are the EIs, in the order of the rows.
+-- `LogC::row` meets its contract: the arms are the EIs, in the order of the rows.
 -- Assumes nothing.
 use borrow.Author.Tests.{ne-eqb}
-use Rattle.curves.specs.LogC3.{rowOf}
-use Rattle.curves.proofs.log_c3.LogC3.row.Statement.{statement}
-use Rattle.curves.proofs.log_c3.LogC3.row.Tie as tie
+use Rattle.curves.specs.LogC.{rowOf}
+use Rattle.curves.proofs.log_c.LogC.row.Statement.{statement}
+use Rattle.curves.proofs.log_c.LogC.row.Tie as tie
 
 pub row-spec : {M : Type 1} → statement M
 unfolding rowOf
