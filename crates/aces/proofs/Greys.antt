@@ -10,10 +10,10 @@ use Rattle.whole.specs.Parts.{up, dn}
 use Rattle.whole.proofs.Reflect.{abs-is, at, add, mul, dif, eqZ}
 use Rattle.whole.proofs.Floor.{floor-only}
 use Rattle.rules.specs.declared.Setting.{Setting}
-use Rattle.rules.specs.Setting.{Valid}
+use Rattle.rules.specs.Setting.{ValidForAces}
 use Rattle.rules.specs.Fraction.{integer, whole, _/ℚ_, nearest}
 use Rattle.rules.specs.Matrix.{Matrix, logC3Matrix, logC4Matrix, matrixFor, matrixOf, entry, acesNumber, IsAces}
-use Rattle.rules.proofs.Settings.{for-curve}
+use Rattle.rules.proofs.Settings.{for-aces}
 use Rattle.row_product.specs.Row.{Number}
 use Rattle.row_product.proofs.Nearest.{nearest-of}
 
@@ -40,9 +40,9 @@ row-grey m i k t x e l h w =
     (ap (λ (w : ℤ). nearest (integer w /ℚ whole (m .scale))) (gathered (entry m i 0) (entry m i 1) (entry m i 2) x ∙ ap (λ (w : ℤ). w *ℤ x) e)
     ∙ grey (m .scale) k t x l h w)
 
--- GREYS STAY GREY: three equal scene numbers give three ACES numbers equal to them, whatever the setting
-pub greys-stay : (s : Setting) → Valid s → (x : ℤ) → Number x → IsAces (matrixOf s) x x x x x x
-greys-stay s v x n = for-curve (λ c. IsAces (matrixFor c) x x x x x x) log-c3 log-c4 s v
+-- GREYS STAY GREY: three equal scene numbers give three ACES numbers equal to them, whatever the setting that is valid for ACES
+pub greys-stay : (s : Setting) → ValidForAces s → (x : ℤ) → Number x → IsAces (matrixOf s) x x x x x x
+greys-stay s v x n = for-aces (λ c. IsAces (matrixFor c) x x x x x x) log-c3 log-c4 s v
   where
     near : 2 * (200 * natAbs x) < 10 ^ 18
     near = omega (arith, n .small)

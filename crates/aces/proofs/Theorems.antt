@@ -1,4 +1,4 @@
--- DEMANDS 2 and 3, the ACES numbers of a pixel, for every valid setting.
+-- DEMANDS 2 and 3, the ACES numbers of a pixel, for every setting that is valid for ACES.
 -- Assumes nothing.
 use mathlib.Core.Path.{_≡_}
 use Prim.Native.Nat.{ℕ, _<_}
@@ -6,10 +6,11 @@ use native.Mathlib.Nat.{le-trans}
 use lib.Dec.{lit≤}
 use Rattle.rules.specs.declared.Setting.{Setting}
 use Rattle.rules.specs.declared.Check.the-variants.{Passed}
-use Rattle.rules.specs.Setting.{stepOf, codeCheck, Valid}
+use Rattle.rules.specs.Setting.{stepOf, codeCheck, Valid, ValidForAces}
 use Rattle.rules.specs.Exact.{scaleOf}
 use Rattle.rules.specs.Matrix.{matrixOf, acesNumber, IsAces}
 use Rattle.rules.specs.ExactRow.{acesTolerance, WithinRow}
+use Rattle.rules.proofs.Settings.{aces-valid}
 use Rattle.decode.specs.Decoded.{decoded}
 use Rattle.decode.proofs.Close.{decoded-close}
 use Rattle.decode.proofs.Distance.{decoded-small}
@@ -17,17 +18,20 @@ use Rattle.row_product.specs.Row.{Number}
 use Rattle.aces.proofs.Greys.{greys-stay}
 use Rattle.aces.proofs.Within.{matrix-within}
 
-module _ (s : Setting) (v : Valid s) where
-  -- a decoded number may be taken to ACES
-  pub decoded-number : (n : ℕ) → codeCheck s n ≡ Passed → Number (decoded s n)
-  decoded-number n e = record { small = le-trans (decoded-small s v n e) (lit≤ tt) }
+-- a decoded number may be taken to ACES
+pub decoded-number : (s : Setting) → Valid s → (n : ℕ) → codeCheck s n ≡ Passed → Number (decoded s n)
+decoded-number s v n e = record { small = le-trans (decoded-small s v n e) (lit≤ tt) }
+
+module _ (s : Setting) (v : ValidForAces s) where
+  abbrev valid : Valid s
+  valid = aces-valid s v
 
   -- "three equal codes give three equal ACES numbers", and these are the code's decoded number
   pub equal-codes : (n : ℕ) → codeCheck s n ≡ Passed → IsAces (matrixOf s) (decoded s n) (decoded s n) (decoded s n) (decoded s n) (decoded s n) (decoded s n)
-  equal-codes n e = greys-stay s v (decoded s n) (decoded-number n e)
+  equal-codes n e = greys-stay s v (decoded s n) (decoded-number s valid n e)
 
   -- "each ACES number made from it is less than .. from what the exact curve and matrix give"
   pub aces-within : (i : ℕ) → i < 3 → (r g b : ℕ) → codeCheck s r ≡ Passed → codeCheck s g ≡ Passed → codeCheck s b ≡ Passed
       → WithinRow acesTolerance (matrixOf s) i (scaleOf s) (stepOf s r) (stepOf s g) (stepOf s b) (acesNumber (matrixOf s) i (decoded s r) (decoded s g) (decoded s b))
   aces-within i h r g b hr hg hb =
-      matrix-within s v i h (scaleOf s) (stepOf s r) (stepOf s g) (stepOf s b) (decoded s r) (decoded s g) (decoded s b) (decoded-close s v r hr) (decoded-close s v g hg) (decoded-close s v b hb)
+      matrix-within s v i h (scaleOf s) (stepOf s r) (stepOf s g) (stepOf s b) (decoded s r) (decoded s g) (decoded s b) (decoded-close s valid r hr) (decoded-close s valid g hg) (decoded-close s valid b hb)

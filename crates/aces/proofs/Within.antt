@@ -17,8 +17,8 @@ use Rattle.rules.specs.Fraction.{Fraction, ratio, whole, integer, _+ℚ_, _-ℚ
 use Rattle.rules.specs.Exact.{Scale, VersusExact}
 use Rattle.rules.specs.Decoding.{unit, tolerance}
 use Rattle.rules.specs.declared.Setting.{Setting}
-use Rattle.rules.specs.Setting.{Valid}
-use Rattle.rules.proofs.Settings.{for-curve}
+use Rattle.rules.specs.Setting.{ValidForAces}
+use Rattle.rules.proofs.Settings.{for-aces}
 use Rattle.whole.proofs.Tests.{each-of-three}
 use Rattle.rules.specs.Matrix.{Matrix, logC3Matrix, logC4Matrix, matrixFor, matrixOf, entry, acesNumber}
 use Rattle.rules.specs.ExactRow.{acesTolerance, Side, VersusRow, WithinRow}
@@ -170,13 +170,13 @@ module _ (N D P Q : ℕ) (m : Matrix) (i : ℕ) (light : 2 * N * weight m i * Q 
 abbrev Light : Matrix → (i : ℕ) → Type 0
 Light m i = 2 * tolerance .plus * weight m i * acesTolerance .over + tolerance .over * m .scale * acesTolerance .over < 2 * tolerance .over * acesTolerance .plus * m .scale
 
-matrix-light : (s : Setting) → Valid s → (i : ℕ) → i < 3 → Light (matrixOf s) i
+matrix-light : (s : Setting) → ValidForAces s → (i : ℕ) → i < 3 → Light (matrixOf s) i
 matrix-light s v i h =
-    for-curve (λ c. Light (matrixFor c) i) (each-of-three (Light logC3Matrix) (lit< tt) (lit< tt) (lit< tt) i h)
+    for-aces (λ c. Light (matrixFor c) i) (each-of-three (Light logC3Matrix) (lit< tt) (lit< tt) (lit< tt) i h)
     (each-of-three (Light logC4Matrix) (lit< tt) (lit< tt) (lit< tt) i h)
     s
     v
 
-pub matrix-within : (s : Setting) → Valid s → (i : ℕ) → i < 3 → (k : Scale) (r g u : ℕ) (x y z : ℤ) → Close tolerance k r x → Close tolerance k g y → Close tolerance k u z
+pub matrix-within : (s : Setting) → ValidForAces s → (i : ℕ) → i < 3 → (k : Scale) (r g u : ℕ) (x y z : ℤ) → Close tolerance k r x → Close tolerance k g y → Close tolerance k u z
     → WithinRow acesTolerance (matrixOf s) i k r g u (acesNumber (matrixOf s) i x y z)
 matrix-within s v i h = row-within (tolerance .plus) (tolerance .over) (acesTolerance .plus) (acesTolerance .over) (matrixOf s) i (matrix-light s v i h)

@@ -3,7 +3,6 @@ ghost use mathlib.Core.Path.{_≡_};
 ghost use Prim.Native.Nat.{_^_};
 ghost use Rattle.rules.specs.Fraction.{integer, whole, _/ℚ_, nearest};
 ghost use Rattle.rules.specs.Matrix.{logC3Matrix, logC4Matrix, matrixOf, IsAces};
-ghost use Rattle.rules.specs.Setting.{Valid};
 ghost use Rattle.rules.specs.Pixels.{IsPixel};
 ghost use Rattle.decode.specs.Ready.{Ready};
 ghost use Rattle.row_product.specs.Row.{Number, Sum};
@@ -20,6 +19,13 @@ use rules::Pixel;
 use rules::Scene;
 use rules::Setting;
 use rules::Triple;
+
+// of a curve that has no matrix
+const NONE: Triple = Triple {
+    red: Aces(0),
+    green: Aces(0),
+    blue: Aces(0),
+};
 
 // A row product over 10^6, rounded once.
 fn over_million(p: i64) -> i64
@@ -75,10 +81,9 @@ fn aces_c4(x: Scene, y: Scene, z: Scene) -> Triple
     }
 }
 
-// The ACES numbers of three scene numbers. (It goes by the curve's number: to name the curve first took
-// 5 % of pixel to ACES. The last arm is of no valid setting.)
+// The ACES numbers of three scene numbers, 0 where there is no matrix. (It goes by the curve's number: to
+// name the curve first took 5 % of pixel to ACES.)
 fn aces(s: Setting, x: Scene, y: Scene, z: Scene) -> Triple
-    requires { ⌜ Valid s ⌝ }
     requires { ⌜ Number (x .0) ⌝ }
     requires { ⌜ Number (y .0) ⌝ }
     requires { ⌜ Number (z .0) ⌝ }
@@ -88,7 +93,7 @@ fn aces(s: Setting, x: Scene, y: Scene, z: Scene) -> Triple
     match curve {
         LogC3::NUMBER => aces_c3(x, y, z),
         LogC4::NUMBER => aces_c4(x, y, z),
-        _ => aces_c4(x, y, z),
+        _ => NONE,
     }
 }
 

@@ -16,9 +16,9 @@ use Rattle.whole.proofs.Near.{Near, same-near, near-of, of-near, near-join, nea
 use Rattle.rules.specs.declared.Setting.{Setting}
 use Rattle.rules.specs.declared.Triple.{Triple}
 use Rattle.rules.specs.declared.CurveName.{CurveName}
-use Rattle.rules.specs.declared.CurveName.the-variants.{LogC3, LogC4, Unknown}
-use Rattle.rules.specs.Setting.{named, Valid}
-use Rattle.rules.proofs.Settings.{for-curve}
+use Rattle.rules.specs.declared.CurveName.the-variants.{LogC2, LogC3, LogC4, Unknown}
+use Rattle.rules.specs.Setting.{named, ValidForAces}
+use Rattle.rules.proofs.Settings.{for-aces}
 use Rattle.rules.specs.Matrix.{matrixFor, matrixOf, acesNumber, IsAces}
 use Rattle.rules.specs.Pixels.{triple}
 use Rattle.rules.proofs.Search.{NearTriple}
@@ -168,17 +168,20 @@ module _ (n m : List (List ℤ)) (half halfBack slack ρ most k : ℕ) (t : T (e
 
 -- ---- the published matrices
 abbrev halfScale : CurveName → ℕ
+halfScale LogC2 = 1
 halfScale LogC3 = 500000
 halfScale LogC4 = 500000000000000000
 halfScale Unknown = 1
 
 abbrev slackOf : CurveName → ℕ
+slackOf LogC2 = 0
 slackOf LogC3 = 504333
 slackOf LogC4 = 414303605123416144
 slackOf Unknown = 0
 
 -- no row of a matrix weighs more than 1.21, and none of an inverse more than 2.032
 abbrev heavy : CurveName → ℕ
+heavy LogC2 = 0
 heavy LogC3 = 1210000
 heavy LogC4 = 1210000000000000000
 heavy Unknown = 0
@@ -198,19 +201,20 @@ near-zero : {k : ℕ} {x y z : ℤ} → Small3 k x y z → Near3 (three x y z) (
 near-zero h = record { red = abs-near (h .red); green = abs-near (h .green); blue = abs-near (h .blue) }
 
 positive : (c : CurveName) → 0 < halfScale c
+positive LogC2 = lit< tt
 positive LogC3 = lit< tt
 positive LogC4 = lit< tt
 positive Unknown = lit< tt
 
-module _ (s : Setting) (v : Valid s) where
+module _ (s : Setting) (v : ValidForAces s) where
   abbrev c : CurveName
   c = named (s .curve)
 
   weighs : (k : ℕ) → k < 3 → T (leb (weight (rowAt (matrixOf s .rows) k)) (heavy c))
-  weighs k h = for-curve (λ n. T (weightTest n k)) (each-of-three (λ i. T (weightTest LogC3 i)) tt tt tt k h) (each-of-three (λ i. T (weightTest LogC4 i)) tt tt tt k h) s v
+  weighs k h = for-aces (λ n. T (weightTest n k)) (each-of-three (λ i. T (weightTest LogC3 i)) tt tt tt k h) (each-of-three (λ i. T (weightTest LogC4 i)) tt tt tt k h) s v
 
   takes-back : (k : ℕ) → k < 3 → T (every (undoes (inverseRows s) (matrixOf s .rows) (halfScale c) (2 ^ 39) (slackOf c) heavyBack farthest k))
-  takes-back k h = for-curve (λ n. T (backTest n k)) (each-of-three (λ i. T (backTest LogC3 i)) tt tt tt k h) (each-of-three (λ i. T (backTest LogC4 i)) tt tt tt k h) s v
+  takes-back k h = for-aces (λ n. T (backTest n k)) (each-of-three (λ i. T (backTest LogC3 i)) tt tt tt k h) (each-of-three (λ i. T (backTest LogC4 i)) tt tt tt k h) s v
 
   -- of given ACES numbers a candidate may be encoded
   pub candidate-small : (x y z : ℤ) → InReach x y z → (k : ℕ) → k < 3 → natAbs (candidate s k x y z) ≤ 2 ^ 40
@@ -221,7 +225,7 @@ module _ (s : Setting) (v : Valid s) where
 
   -- the matrix, with its scale
   same : (i : ℕ) (x y z : ℤ) → acesNumber (matrixOf s) i x y z ≡ acesNumber (over (2 * halfScale c) (matrixOf s .rows)) i x y z
-  same i x y z = for-curve (λ n. acesNumber (matrixFor n) i x y z ≡ acesNumber (over (2 * halfScale n) (matrixFor n .rows)) i x y z) refl refl s v
+  same i x y z = for-aces (λ n. acesNumber (matrixFor n) i x y z ≡ acesNumber (over (2 * halfScale n) (matrixFor n .rows)) i x y z) refl refl s v
 
   -- the ACES numbers of scene numbers up to 2 ^ 33 are at most 2 ^ 38, with room for a distance
   made-small : (x y z : ℤ) → Small3 largest x y z → (k : ℕ) → k < 3 → natAbs (acesNumber (matrixOf s) k x y z) ≤ 2 ^ 38 - farthest
@@ -230,7 +234,7 @@ module _ (s : Setting) (v : Valid s) where
       (row-size (matrixOf s .rows) (halfScale c) (positive c) k (heavy c) largest (2 ^ 38 - farthest) (three x y z) (leb→le (weight (rowAt (matrixOf s .rows) k)) (heavy c) (weighs k l)) (near-zero h) fits)
     where
       fits : heavy (named (s .curve)) * largest + halfScale (named (s .curve)) < 2 * halfScale (named (s .curve)) * suc (2 ^ 38 - farthest)
-      fits = for-curve (λ n. heavy n * largest + halfScale n < 2 * halfScale n * suc (2 ^ 38 - farthest)) (lit< tt) (lit< tt) s v
+      fits = for-aces (λ n. heavy n * largest + halfScale n < 2 * halfScale n * suc (2 ^ 38 - farthest)) (lit< tt) (lit< tt) s v
 
   -- numbers at most e from the ACES numbers of such scene numbers
   module _ (x y z : ℤ) (h : Small3 largest x y z) (e : ℕ) (l : e ≤ farthest) (a : Triple)

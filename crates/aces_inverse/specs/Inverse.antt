@@ -6,9 +6,10 @@ use Prim.Native.Nat.{ℕ, _^_}
 use lib.IntN.{ℤ, pos, _+ℤ_, _*ℤ_}
 use Rattle.rules.specs.declared.Setting.{Setting}
 use Rattle.rules.specs.declared.CurveName.{CurveName}
-use Rattle.rules.specs.declared.CurveName.the-variants.{LogC3, LogC4, Unknown}
+use Rattle.rules.specs.declared.CurveName.the-variants.{LogC2, LogC3, LogC4, Unknown}
 use Rattle.rules.specs.Setting.{named}
-use Rattle.rules.specs.Matrix.{Matrix, minus, acesNumber, IsAces}
+use Rattle.whole.specs.Parts.{minus}
+use Rattle.rules.specs.Matrix.{Matrix, acesNumber, IsAces}
 use Rattle.row_product.specs.Row.{over}
 use Rattle.row_product.specs.Digits.{upper, lower}
 
@@ -27,6 +28,7 @@ logC3Inverse =
     ∷ []
 
 abbrev pub inverseFor : CurveName → List (List ℤ)
+inverseFor LogC2 = []
 inverseFor LogC3 = logC3Inverse
 inverseFor LogC4 = logC4Inverse
 inverseFor Unknown = []

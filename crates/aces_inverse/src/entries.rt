@@ -1,6 +1,6 @@
 // The inverses of the published matrices, and the digits of their entries.
 
-// The inverse of the matrix of each curve, over 2^40.
+// The inverse of the matrix of each curve that has one, over 2^40.
 const BACK_3: [[i64; 3]; 3] = [
     [1666845747229, -397300528251, -170033591202],
     [-141097559821, 1120748249465, 119860938131],
@@ -44,3 +44,6 @@ pub const BACK_4_LOW: [[i64; 3]; 3] = [
     [BACK_4[1][0] % P21, BACK_4[1][1] % P21, BACK_4[1][2] % P21],
     [BACK_4[2][0] % P21, BACK_4[2][1] % P21, BACK_4[2][2] % P21],
 ];
+
+// of a curve that has no matrix
+pub const NONE: [[i64; 3]; 3] = [[0; 3]; 3];

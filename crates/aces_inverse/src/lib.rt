@@ -2,7 +2,7 @@
 ghost use mathlib.Core.Path.{_≡_};
 ghost use Prim.Native.Nat.{_^_};
 ghost use Rattle.rules.specs.Fraction.{integer, whole, _/ℚ_, nearest};
-ghost use Rattle.rules.specs.Setting.{Valid};
+ghost use Rattle.rules.specs.Setting.{ValidForAces};
 ghost use Rattle.row_product.specs.Row.{Sum};
 ghost use Rattle.aces_inverse.specs.Reach.{InReach};
 ghost use Rattle.aces_inverse.specs.Inverse.{lowRows, highRows, pair, IsCandidate};
@@ -22,28 +22,29 @@ pub struct Scenes {
     pub blue: Scene,
 }
 
-// The digits of the inverse of a setting's matrix. (By the curve's number, as the matrix is chosen.)
+// The digits of the inverse of a setting's matrix. (By the curve's number, as the matrix is chosen. The last
+// arm is of no setting that is valid for ACES.)
 fn high_of(s: Setting) -> [[i64; 3]; 3]
-    requires { ⌜ Valid s ⌝ }
+    requires { ⌜ ValidForAces s ⌝ }
     ensures { λ m. ⌜ m ≡ highRows s ⌝ }
 {
     let curve = s.curve;
     match curve {
         LogC3::NUMBER => entries::BACK_3_HIGH,
         LogC4::NUMBER => entries::BACK_4_HIGH,
-        _ => entries::BACK_4_HIGH,
+        _ => entries::NONE,
     }
 }
 
 fn low_of(s: Setting) -> [[i64; 3]; 3]
-    requires { ⌜ Valid s ⌝ }
+    requires { ⌜ ValidForAces s ⌝ }
     ensures { λ m. ⌜ m ≡ lowRows s ⌝ }
 {
     let curve = s.curve;
     match curve {
         LogC3::NUMBER => entries::BACK_3_LOW,
         LogC4::NUMBER => entries::BACK_4_LOW,
-        _ => entries::BACK_4_LOW,
+        _ => entries::NONE,
     }
 }
 
@@ -59,7 +60,7 @@ fn over_binary(l: i64, h: i64) -> i64
 
 // The scene numbers that a way back tries for three ACES numbers.
 pub fn candidate(s: Setting, a: Triple) -> Scenes
-    requires { ⌜ Valid s ⌝ }
+    requires { ⌜ ValidForAces s ⌝ }
     requires { ⌜ InReach (a .red .0) (a .green .0) (a .blue .0) ⌝ }
     ensures { λ r. ⌜ IsCandidate s (a .red .0) (a .green .0) (a .blue .0) (r .red .0) (r .green .0) (r .blue .0) ⌝ }
 {

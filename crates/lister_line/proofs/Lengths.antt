@@ -30,6 +30,7 @@ number-small refusal.Refusal.FloatNotFinite = omega arith
 number-small refusal.Refusal.FloatOutOfRange = omega arith
 number-small refusal.Refusal.NoPixel = omega arith
 number-small refusal.Refusal.CodeBelowFirst = omega arith
+number-small refusal.Refusal.NoMatrix = omega arith
 
 module _ (k : ℕ) (h : k < 2 ^ 64) where
   index-long : length (decimal k) ≤ 20

@@ -10,15 +10,13 @@ use Rattle.rules.specs.declared.Check as check
 use Rattle.rules.specs.Record.{codeBytes, settingOf, channelAt, pixelIn}
 use Rattle.rules.specs.Setting.{codeCheck}
 use Rattle.rules.specs.Strip.{recordCheck, records}
-use Rattle.rules.proofs.Settings.{both}
+use Rattle.rules.proofs.Settings.{aces-valid, both}
 use Rattle.decode.specs.Decoded.{decoded}
 use Rattle.aces_inverse.specs.Reach.{InReach}
 use Rattle.aces_inverse.proofs.Inverse.{aces-small}
 use Rattle.decode.proofs.Distance.{decoded-small}
 use Rattle.record_conversion.specs.Conversions.{pixelToAces}
-use Rattle.record_conversion.specs.declared.Kind.the-variants.{PixelToAces}
 use Rattle.record_conversion.proofs.Channels.{all-pass}
-use Rattle.record_conversion.proofs.EveryKind.{kind-valid}
 use Rattle.lister_line.specs.Line.{longest}
 use Rattle.lister_line.proofs.Lengths.{aces-long, refused-long}
 use Rattle.lister_text.specs.Listed.{outcomeOf, lines}
@@ -31,10 +29,10 @@ numbers-small : (r : List ℕ) → recordCheck pixelToAces r ≡ check.Check.Pas
 numbers-small r e =
     let s = settingOf r in
     let b = both (pixelToAces .setting s) (pixelToAces .inner r) e in
-    let v = kind-valid PixelToAces s (b .0) in
+    let v = aces-valid s (b .0) in
     let p = all-pass codeBytes (codeCheck s) r (b .1) in
     let code : ℕ → ℕ = λ i. channelAt codeBytes r i in
-    aces-small s v (decoded s (code 0)) (decoded s (code 1)) (decoded s (code 2))
+    aces-small s (b .0) (decoded s (code 0)) (decoded s (code 1)) (decoded s (code 2))
     (record {
       red = decoded-small s v (code 0) (p .red);
       green = decoded-small s v (code 1) (p .green);

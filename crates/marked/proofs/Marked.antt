@@ -10,13 +10,13 @@ use borrow.Author.Tests.{eqb-true, eqb-false, ltb-true, ltb-false}
 use lib.Dec.{T, eqb, leb, ltb, lit<}
 use lib.IntN.{ℤ, pos, negsuc, natAbs, _-ℤ_}
 use lib.Signed.{_<ℤ_}
-use Rattle.whole.specs.Parts.{up}
+use Rattle.whole.specs.Parts.{up, minus}
 use Rattle.whole.proofs.Reflect.{one-zero, abs-is, at, sub, dif, ltN-of}
 use Rattle.whole.proofs.Near.{near-test}
 use Rattle.whole.proofs.Tidy.{tidy}
 use Rattle.rules.specs.Fraction.{Fraction, whole, ratio, integer, _+ℚ_, _-ℚ_, _*ℚ_, VersusPower, nearest, Less, Greater}
 use Rattle.rules.specs.declared.Setting.{Setting}
-use Rattle.rules.specs.Setting.{settingCheck, topOf, codesOf, curveOf, lastOf, codeAt, codeCheck, Valid}
+use Rattle.rules.specs.Setting.{settingCheck, acesCheck, topOf, codesOf, curveOf, lastOf, codeAt, codeCheck, Valid, ValidForAces}
 use Rattle.rules.specs.Curve.{logC4, exponent, toeValue}
 use Rattle.rules.specs.Exact.{Scale, signal, powerFor, VersusPart}
 use Rattle.rules.specs.Decoding.{Decodes, DecodesCode, DecodesPart, tolerance, unit}
@@ -26,7 +26,7 @@ use Rattle.rules.specs.declared.Check.the-variants.{Passed}
 use Rattle.rules.proofs.Codes.{code-passes, code-rises}
 use Rattle.rules.proofs.Values as values
 use Rattle.rules.proofs.Search.{near-within3, none-found}
-use Rattle.rules.specs.Matrix.{minus, matrixOf, acesNumber}
+use Rattle.rules.specs.Matrix.{matrixOf, acesNumber}
 use Rattle.rules.specs.declared.Pixel.{Pixel}
 use Rattle.rules.specs.declared.Found.{Found}
 use Rattle.rules.specs.Refusal.{numberOfCheck}
@@ -115,6 +115,10 @@ valid-800 : Valid s800
 unfolding settingCheck
 valid-800 = refl
 
+aces-800 : ValidForAces s800
+unfolding settingCheck acesCheck
+aces-800 = refl
+
 passes-0 : codeCheck s800 0 ≡ Passed
 unfolding codesOf
 passes-0 = refl
@@ -149,7 +153,7 @@ module _ (number : ℕ → ℤ) (allowed : Allowed s800 number) where
   -- and no other pixel can give this one
   never : (q : Pixel) → GivesBy 0 number s800 nextTriple q → ⊥
   never q g =
-      let e : q ≡ pixel 0 0 0 = only-candidate-by s800 valid-800 number allowed 0 (exact-enough s800 valid-800) nextTriple q g ∙ first-pixel in
+      let e : q ≡ pixel 0 0 0 = only-candidate-by s800 aces-800 number allowed 0 (exact-enough s800 valid-800) nextTriple q g ∙ first-pixel in
       let f : within3 0 nextTriple (acesOf number (matrixOf s800) q) ≡ true = near-within3 0 nextTriple (acesOf number (matrixOf s800) q) (g .numbers) in
       absurd (subst T (sym f ∙ ap (λ (p : Pixel). within3 0 nextTriple (acesOf number (matrixOf s800) p)) e ∙ first-gives) tt)
 
@@ -159,7 +163,7 @@ module _ (number : ℕ → ℤ) (allowed : Allowed s800 number) where
 
 -- THE LIST
 pub marked : Marked
-unfolding settingCheck codesOf sceneCheck floatCheck unitsOf valueOf acesNumber answerOf
+unfolding settingCheck acesCheck codesOf sceneCheck floatCheck unitsOf valueOf acesNumber answerOf
 marked =
     record {
       code-4095 = code-4095;

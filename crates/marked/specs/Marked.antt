@@ -8,6 +8,7 @@ use Prim.Native.Nat.{ℕ, _+_, _^_, _≤_}
 use lib.Ieee.{fin}
 use lib.IntN.{ℤ, pos}
 use lib.ListN.{length}
+use Rattle.whole.specs.Parts.{minus}
 use Rattle.rules.specs.declared.Answer.the-variants.{Refused}
 use Rattle.rules.specs.declared.Check.the-variants.{Passed}
 use Rattle.rules.specs.declared.Refusal.the-variants.{PartialRecord}
@@ -16,12 +17,12 @@ use Rattle.rules.specs.declared.Triple.{Triple}
 use Rattle.rules.specs.Fraction.{ratio, whole}
 use Rattle.rules.specs.Refusal.{then, numberOf, numberOfCheck}
 use Rattle.rules.specs.Curve.{inToe}
-use Rattle.rules.specs.Setting.{settingCheck, codeCheck, curveOf, lastOf, stepOf, Valid}
+use Rattle.rules.specs.Setting.{settingCheck, acesCheck, codeCheck, curveOf, lastOf, stepOf, Valid}
 use Rattle.rules.specs.Exact.{signal, scaleOf, VersusExact}
 use Rattle.rules.specs.Decoding.{DecodesCode}
 use Rattle.rules.specs.Encoding.{IsNearest, numberAt, sceneCheck}
 use Rattle.rules.specs.Float.{floatCheck, unitsOf}
-use Rattle.rules.specs.Matrix.{minus, matrixOf, IsAces}
+use Rattle.rules.specs.Matrix.{matrixOf, IsAces}
 use Rattle.rules.specs.WayBack.{pixelBy, foundCheck}
 use Rattle.rules.specs.Strip.{answerOf}
 use Rattle.rules.specs.Conversions.{pixelToScene, pixelToAces}
@@ -75,7 +76,7 @@ pub record Marked : Type 0 where
   pub scene-past-limit : numberOfCheck (sceneCheck (pos (limit + 1))) ≡ 7
   -- "ACES -290085, -290085, -290084 under curve 3, width 12, EI 800: 10."
   pub no-pixel : (number : ℕ → ℤ) → Allowed (setting 3 12 800) number
-      → numberOfCheck (then (settingCheck (setting 3 12 800)) (foundCheck (pixelBy (λ s. number) (setting 3 12 800) nextTriple))) ≡ 10
+      → numberOfCheck (then (acesCheck (setting 3 12 800)) (foundCheck (pixelBy (λ s. number) (setting 3 12 800) nextTriple))) ≡ 10
   -- "Float 2^-25 is unit 1, -2^-25 is 0."
   pub float-half : (floatCheck (fin false 1 (minus 25)) ≡ Passed) × (unitsOf (fin false 1 (minus 25)) ≡ pos 1)
   pub float-minus-half : (floatCheck (fin true 1 (minus 25)) ≡ Passed) × (unitsOf (fin true 1 (minus 25)) ≡ pos 0)

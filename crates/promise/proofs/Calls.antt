@@ -12,8 +12,7 @@ use Rattle.rules.specs.Result.{done, stripResult}
 use Rattle.rules.specs.Strip.{Conversion, recordAt, answerOf, outputAfter, Converts}
 use Rattle.record_conversion.specs.Conversions.{pixelToScene, sceneToPixel}
 use Rattle.strip.specs.Lent.{LentBytes}
-use Rattle.promise.specs.Words.{HoldsPixel}
-use Rattle.promise.specs.Scenes.{HoldsScene, DecodedRecord, EncodedRecord, ConvertedEach}
+use Rattle.promise.specs.Scenes.{HoldsCodes, HoldsScene, DecodedRecord, EncodedRecord, ConvertedEach}
 use Rattle.promise.proofs.Scenes.{pixels-decoded, scenes-encoded}
 
 -- what holds of the rules' answer and output holds of the call's
@@ -30,7 +29,7 @@ module _ {c : Conversion} {input output after : List ℕ} {answer : Answer} (h :
 
 -- a call of pixel to scene, on a strip whose records hold pixels
 pub decoded-by-call : {pixels output after : List ℕ} {answer : Answer} → Converts pixelToScene pixels output answer after → LentBytes pixels output after
-    → (n : ℕ) → length pixels ≡ n * pixelSize → ((k : ℕ) → k < n → HoldsPixel (recordAt pixelSize k pixels)) → n * numbersSize ≤ length output
+    → (n : ℕ) → length pixels ≡ n * pixelSize → ((k : ℕ) → k < n → HoldsCodes (recordAt pixelSize k pixels)) → n * numbersSize ≤ length output
     → (stripResult answer ≡ done (n ∷ [])) × ((k : ℕ) → k < n → DecodedRecord (recordAt pixelSize k pixels) (recordAt numbersSize k after))
 decoded-by-call {pixels} {output} h lent n long each room =
     each-of-call h DecodedRecord n (pixels-decoded pixels output n (record { bytes = lent .input-bytes; long = long; each = each }) room)

@@ -11,13 +11,14 @@ use lib.ListN.{length, take, drop}
 use Rattle.rules.specs.declared.Found.{Found}
 use Rattle.rules.specs.declared.Setting.{Setting}
 use Rattle.rules.specs.declared.Triple.{Triple}
-use Rattle.rules.specs.Setting.{codeAt, lastOf, Valid}
+use Rattle.rules.specs.Setting.{codeAt, lastOf, ValidForAces}
 use Rattle.rules.specs.Matrix.{matrixOf}
 use Rattle.rules.specs.Record.{settingOf, pixelIn, acesRecord, pixelSize}
 use Rattle.rules.specs.Strip.{records, recordAt, written}
 use Rattle.rules.specs.WayBack.{pixelBy}
 use Rattle.rules.proofs.Search.{same-aces, same-found}
 use Rattle.rules.proofs.Codes.{code-passes}
+use Rattle.rules.proofs.Settings.{aces-valid}
 use Rattle.decode.specs.Decoded.{decoded}
 use Rattle.decoded_nearest.specs.Nearest.{NearestNumbers}
 use Rattle.decoded_nearest.proofs.Theorems.{nearest-numbers}
@@ -42,9 +43,9 @@ module _ (number : Setting → ℕ → ℤ) (near : NearestNumbers number) where
   same-record r h =
       let s = settingOf r in
       let p = pixelIn r in
-      same-aces (number s) (decoded s) (matrixOf s) p (nearest-numbers number near s (h .valid) (p .red .0) (h .pixel .red))
-      (nearest-numbers number near s (h .valid) (p .green .0) (h .pixel .green))
-      (nearest-numbers number near s (h .valid) (p .blue .0) (h .pixel .blue))
+      same-aces (number s) (decoded s) (matrixOf s) p (nearest-numbers number near s (aces-valid s (h .valid)) (p .red .0) (h .pixel .red))
+      (nearest-numbers number near s (aces-valid s (h .valid)) (p .green .0) (h .pixel .green))
+      (nearest-numbers number near s (aces-valid s (h .valid)) (p .blue .0) (h .pixel .blue))
 
   -- THE ACES STRIP is the same, byte for byte
   pub papers-alone : (pixels : List ℕ) (n : ℕ) → Accepted pixels n → acesStripBy number pixels ≡ acesStrip pixels
@@ -55,6 +56,6 @@ module _ (number : Setting → ℕ → ℤ) (near : NearestNumbers number) where
       pixelSize n pixels (λ k l. ap (acesRecord (settingOf (recordAt pixelSize k pixels))) (same-record (recordAt pixelSize k pixels) (a .each k l))))
 
   -- THE WAY BACK finds the same pixel, or none, for any three numbers
-  pub papers-alone-back : (s : Setting) → Valid s → (a : Triple) → pixelBy number s a ≡ pixelFor s a
+  pub papers-alone-back : (s : Setting) → ValidForAces s → (a : Triple) → pixelBy number s a ≡ pixelFor s a
   unfolding pixelBy
-  papers-alone-back s v a = same-found 0 (number s) (decoded s) (matrixOf s) (codeAt s) (lastOf s) a (λ i h. nearest-numbers number near s v (codeAt s i) (code-passes s i h))
+  papers-alone-back s v a = same-found 0 (number s) (decoded s) (matrixOf s) (codeAt s) (lastOf s) a (λ i h. nearest-numbers number near s (aces-valid s v) (codeAt s i) (code-passes s i h))

@@ -13,7 +13,7 @@ use Rattle.rules.specs.declared.Answer.the-variants.{Done}
 use Rattle.rules.specs.declared.Check.{Check}
 use Rattle.rules.specs.declared.Check.the-variants.{Passed}
 use Rattle.rules.specs.declared.Setting.{Setting}
-use Rattle.rules.specs.Setting.{codeCheck, Valid}
+use Rattle.rules.specs.Setting.{settingCheck, codeCheck, Valid}
 use Rattle.rules.specs.Decoding.{DecodesCode}
 use Rattle.rules.specs.Record.{IsBytes, ofBits, sizeOf, codeBytes, numberBytes, settingOf, channelAt, pixelSize, numbersSize}
 use Rattle.rules.specs.Strip.{recordCheck, recordAt, answerOf, outputAfter}
@@ -30,9 +30,8 @@ use Rattle.record_conversion.proofs.SceneBits.{scene-fits, scene-read}
 use Rattle.strip_passes.proofs.Cut.{length-at}
 use Rattle.strip.proofs.First.{all-done}
 use Rattle.strip.proofs.Back.{whole-done}
-use Rattle.promise.specs.Words.{Accepted}
-use Rattle.promise.specs.Scenes.{HoldsScene, AcceptedScenes, EachChannel, IsDecoded, DecodedRecord, IsEncoded, EncodedRecord, ConvertedEach}
-use Rattle.promise.proofs.Strips.{written-at, bytes-at, accepted-good}
+use Rattle.promise.specs.Scenes.{AcceptedCodes, HoldsScene, AcceptedScenes, EachChannel, IsDecoded, DecodedRecord, IsEncoded, EncodedRecord, ConvertedEach}
+use Rattle.promise.proofs.Strips.{written-at, bytes-at, holds-passes}
 use Rattle.rules.specs.Conversions.{channelChecks, channelwise, numberCheck}
 
 -- ---- any conversion channel by channel: what is written for a channel that passes fits, and is R to the channel
@@ -86,10 +85,10 @@ scene-decoded s v code e =
 
 -- PIXEL TO SCENE converts an accepted strip, and writes for each record its setting and decoded
 -- numbers of its codes, channel by channel
-pub pixels-decoded : (pixels output : List ℕ) (n : ℕ) → Accepted pixels n → n * numbersSize ≤ length output → ConvertedEach pixelToScene DecodedRecord pixels output n
+pub pixels-decoded : (pixels output : List ℕ) (n : ℕ) → AcceptedCodes pixels n → n * numbersSize ≤ length output → ConvertedEach pixelToScene DecodedRecord pixels output n
 pixels-decoded pixels output n a room =
     strip-each codeBytes numberBytes codeCheck sceneBits IsDecoded scene-fits scene-decoded pixels output n (a .bytes) (a .long)
-    (λ k i. accepted-good pixels n a k i .passes) (lit< tt) room
+    (λ k i. holds-passes settingCheck (recordAt pixelSize k pixels) (a .each k i)) (lit< tt) room
 
 -- ---- encoding
 module _ (s : Setting) (v : Valid s) (bits : ℕ) (e : numberCheck s bits ≡ Passed) where

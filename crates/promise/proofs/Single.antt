@@ -14,23 +14,21 @@ use Rattle.rules.specs.declared.Refusal.the-variants.{NoPixel}
 use Rattle.rules.specs.declared.Setting.{Setting}
 use Rattle.rules.specs.declared.Triple.{Triple}
 use Rattle.rules.specs.Refusal.{then, numberOf, numberOfCheck}
-use Rattle.rules.specs.Setting.{settingCheck, codeCheck, Valid}
+use Rattle.rules.specs.Setting.{acesCheck, codeCheck, ValidForAces}
 use Rattle.rules.specs.Matrix.{matrixOf, IsAces}
 use Rattle.rules.specs.Record.{IsBytes, toBits, ofBits, codeBytes, settingOf, Channels, channelAt, channelsOf, recordOf, pixelIn, pixelRecord, tripleIn, acesRecord, numbersSize, settingBytes, numberBytes}
 use Rattle.rules.specs.Strip.{recordCheck}
 use Rattle.rules.specs.WayBack.{foundCheck}
 use Rattle.rules.proofs.Records.{FitsRecord, value-small, drop-bytes, read-setting, read-channels, write-read, of-to, to-of, bits-fit, length-record}
-use Rattle.rules.proofs.Settings.{both, refused-never}
+use Rattle.rules.proofs.Settings.{aces-valid, both, refused-never}
 use Rattle.decode.specs.Decoded.{decoded}
 use Rattle.aces_inverse.specs.Reach.{Small3, InReach}
 use Rattle.aces_inverse.proofs.Inverse.{aces-small}
 use Rattle.decode.proofs.Distance.{decoded-small}
 use Rattle.way_back.specs.Back.{pixelFor}
 use Rattle.way_back.proofs.Theorems.{found-gives, own-found, one-pixel}
-use Rattle.record_conversion.specs.declared.Kind.the-variants.{PixelToAces, AcesToPixel}
 use Rattle.record_conversion.specs.Conversions.{pixelToAces, acesToPixel}
 use Rattle.record_conversion.proofs.Channels.{codes-pixel}
-use Rattle.record_conversion.proofs.EveryKind.{kind-valid}
 use Rattle.record_conversion.proofs.Good.{Good}
 use Rattle.record_conversion.proofs.SceneBits.{small-fits}
 use Rattle.promise.specs.Words.{given, HoldsPixel, Without, OnlyPixel, refusalOf}
@@ -39,13 +37,13 @@ use Rattle.rules.specs.Conversions.{channelChecks, pixelFound}
 use Rattle.aces.specs.OfPixel.{pixelAces}
 
 -- the ACES numbers of a pixel are small
-pixel-given : (s : Setting) → Valid s → (p : Pixel) → IsPixel s p → InReach (pixelAces s p .red .0) (pixelAces s p .green .0) (pixelAces s p .blue .0)
+pixel-given : (s : Setting) → ValidForAces s → (p : Pixel) → IsPixel s p → InReach (pixelAces s p .red .0) (pixelAces s p .green .0) (pixelAces s p .blue .0)
 pixel-given s v p i =
     aces-small s v (decoded s (p .red .0)) (decoded s (p .green .0)) (decoded s (p .blue .0))
     (record {
-      red = decoded-small s v (p .red .0) (i .red);
-      green = decoded-small s v (p .green .0) (i .green);
-      blue = decoded-small s v (p .blue .0) (i .blue);
+      red = decoded-small s (aces-valid s v) (p .red .0) (i .red);
+      green = decoded-small s (aces-valid s v) (p .green .0) (i .green);
+      blue = decoded-small s (aces-valid s v) (p .blue .0) (i .blue);
     })
     (record { red-is = refl; green-is = refl; blue-is = refl })
 
@@ -107,20 +105,20 @@ module _ (r : List ℕ) (h : IsBytes r) (l : length r ≡ numbersSize) where
   s = settingOf r
 
   -- a pixel that gives the record gives its numbers, and the other way round
-  numbers-given : Valid s → (p : Pixel) → IsPixel s p → given s p ≡ r → pixelAces s p ≡ tripleIn r
+  numbers-given : ValidForAces s → (p : Pixel) → IsPixel s p → given s p ≡ r → pixelAces s p ≡ tripleIn r
   numbers-given v p i e = sym (triple-read s (fits-setting r h) (pixelAces s p) (pixel-given s v p i)) ∙ ap tripleIn e
 
   record-given : (p : Pixel) → pixelAces s p ≡ tripleIn r → given s p ≡ r
   record-given p e = ap (acesRecord s) e ∙ record-read r h l
 
-  passed-valid : recordCheck acesToPixel r ≡ Passed → Valid s × (foundCheck (pixelFor s (tripleIn r)) ≡ Passed)
-  passed-valid e = let b = both (acesToPixel .setting s) (acesToPixel .inner r) e in (kind-valid AcesToPixel s (b .0), b .1)
+  passed-valid : recordCheck acesToPixel r ≡ Passed → ValidForAces s × (foundCheck (pixelFor s (tripleIn r)) ≡ Passed)
+  passed-valid e = both (acesToPixel .setting s) (acesToPixel .inner r) e
 
   -- THE RECORD PASSES: it comes back as the only pixel that gives it
   pub passed-only : recordCheck acesToPixel r ≡ Passed → OnlyPixel r (acesToPixel .bytes r)
   passed-only e = let v = passed-valid e in go (v .0) (pixelFor s (tripleIn r)) refl (v .1)
     where
-      go : Valid s → (f : Found) → pixelFor s (tripleIn r) ≡ f → foundCheck f ≡ Passed → OnlyPixel r (pixelRecord s (pixelFound (pixelFor s (tripleIn r))))
+      go : ValidForAces s → (f : Found) → pixelFor s (tripleIn r) ≡ f → foundCheck f ≡ Passed → OnlyPixel r (pixelRecord s (pixelFound (pixelFor s (tripleIn r))))
       go v (found.Found.Pixel p) e k =
           let g = found-gives s (tripleIn r) p e in
           record {
@@ -134,7 +132,7 @@ module _ (r : List ℕ) (h : IsBytes r) (l : length r ≡ numbersSize) where
       go v found.Found.Nothing e k = refused-never k
 
   -- a pixel gives the record: it passes
-  pub given-passes : Valid s → (p : Pixel) → IsPixel s p → given s p ≡ r → recordCheck acesToPixel r ≡ Passed
+  pub given-passes : ValidForAces s → (p : Pixel) → IsPixel s p → given s p ≡ r → recordCheck acesToPixel r ≡ Passed
   given-passes v p i e =
       rw v (ap (λ (a : Triple). foundCheck (pixelFor s a)) (sym (numbers-given v p i e)) ∙ ap foundCheck (own-found s v p i))
 
@@ -144,20 +142,20 @@ module _ (r : List ℕ) (h : IsBytes r) (l : length r ≡ numbersSize) where
   not-both (Without.no-pixel n) e = let o = passed-only e in n (o .pixel) (o .is-pixel) (o .gives)
 
   pub refused-without : (why : Refusal) → recordCheck acesToPixel r ≡ Refused why → Without r
-  refused-without why e = go (settingCheck s) refl
+  refused-without why e = go (acesCheck s) refl
     where
-      go : (x : Check) → settingCheck s ≡ x → Without r
+      go : (x : Check) → acesCheck s ≡ x → Without r
       go (Refused w) f = Without.no-setting (λ v. refused-never (sym f ∙ v))
       go Passed f = Without.no-pixel (λ p i g. refused-never (sym e ∙ given-passes f p i g))
 
 -- the number of what is refused
 pub refusal-number : (r : List ℕ) (why : Refusal) → recordCheck acesToPixel r ≡ Refused why → numberOf why ≡ refusalOf (settingOf r)
-refusal-number r why e = go (settingCheck (settingOf r)) refl (foundCheck (pixelFor (settingOf r) (tripleIn r))) refl e
+refusal-number r why e = go (acesCheck (settingOf r)) refl (foundCheck (pixelFor (settingOf r) (tripleIn r))) refl e
   where
     numbers : (x y : Check) → x ≡ y → numberOfCheck x ≡ numberOfCheck y
     numbers x y e = ap numberOfCheck e
 
-    go : (x : Check) → settingCheck (settingOf r) ≡ x → (y : Check) → foundCheck (pixelFor (settingOf r) (tripleIn r)) ≡ y → then x y ≡ Refused why → numberOf why ≡ numberOfCheck (then (settingCheck (settingOf r)) (Refused NoPixel))
+    go : (x : Check) → acesCheck (settingOf r) ≡ x → (y : Check) → foundCheck (pixelFor (settingOf r) (tripleIn r)) ≡ y → then x y ≡ Refused why → numberOf why ≡ numberOfCheck (then (acesCheck (settingOf r)) (Refused NoPixel))
     go (Refused w) f y g e = rw f (numbers (Refused why) (Refused w) (sym e))
     go Passed f y g e = rw f (numbers (Refused why) (Refused NoPixel) (sym (g ∙ e) ∙ only-cause (pixelFor (settingOf r) (tripleIn r)) (g ∙ e)))
       where
@@ -170,8 +168,8 @@ module _ (r : List ℕ) (g : Good pixelToAces r) where
   abbrev setting : Setting
   setting = settingOf r
 
-  checked : Valid setting × (channelChecks codeBytes (codeCheck setting) r ≡ Passed)
-  checked = let b = both (pixelToAces .setting setting) (pixelToAces .inner r) (g .passes) in (kind-valid PixelToAces setting (b .0), b .1)
+  checked : ValidForAces setting × (channelChecks codeBytes (codeCheck setting) r ≡ Passed)
+  checked = both (pixelToAces .setting setting) (pixelToAces .inner r) (g .passes)
 
   pixel : IsPixel setting (pixelIn r)
   pixel = codes-pixel setting r (checked .1)

@@ -11,8 +11,10 @@ use lib.Seq.{take-at, drop-at, length-take-le}
 use Rattle.rules.specs.declared.Answer.the-variants.{Done}
 use Rattle.rules.specs.declared.Check.{Check}
 use Rattle.rules.specs.declared.Check.the-variants.{Passed}
-use Rattle.rules.specs.Setting.{codeCheck}
-use Rattle.rules.specs.Record.{IsBytes, settingOf, channelAt, pixelSize, numbersSize, numberBytes}
+use Rattle.rules.specs.declared.Setting.{Setting}
+use Rattle.rules.specs.Refusal.{then}
+use Rattle.rules.specs.Setting.{acesCheck, codeCheck}
+use Rattle.rules.specs.Record.{IsBytes, settingOf, channelAt, pixelSize, numbersSize, codeBytes, numberBytes}
 use Rattle.rules.specs.Strip.{Conversion, recordCheck, records, recordAt, written, scanOf}
 use Rattle.rules.proofs.Records.{take-bytes, drop-bytes, length-record}
 use Rattle.record_conversion.specs.Conversions.{pixelToAces}
@@ -20,7 +22,7 @@ use Rattle.record_conversion.proofs.Good.{Good}
 use Rattle.strip_passes.proofs.Cut.{length-at, length-written}
 use Rattle.strip.proofs.First.{at-start, at-later, all-done}
 use Rattle.strip.proofs.Back.{Whole}
-use Rattle.promise.specs.Words.{Accepted, HoldsPixel, acesStrip}
+use Rattle.promise.specs.Words.{HoldsPixelBy, Accepted, acesStrip}
 use Rattle.rules.specs.Conversions.{channelChecks}
 
 -- the k-th record that is written is that of the k-th record
@@ -47,9 +49,9 @@ pub aces-long : (r : List ℕ) → length (pixelToAces .bytes r) ≡ numbersSize
 aces-long r = length-record numberBytes (settingOf r) _
 
 -- ---- an accepted strip
-holds-passes : (r : List ℕ) → HoldsPixel r → recordCheck pixelToAces r ≡ Passed
+pub holds-passes : (check : Setting → Check) (r : List ℕ) → HoldsPixelBy (λ s. check s ≡ Passed) r → then (check (settingOf r)) (channelChecks codeBytes (codeCheck (settingOf r)) r) ≡ Passed
 unfolding channelChecks
-holds-passes r h = rw (h .valid, h .pixel .red, h .pixel .green, h .pixel .blue)
+holds-passes check r h = rw (h .valid, h .pixel .red, h .pixel .green, h .pixel .blue)
 
 module _ (pixels : List ℕ) (n : ℕ) (a : Accepted pixels n) where
   pub accepted-good : (k : ℕ) → k < n → Good pixelToAces (recordAt pixelSize k pixels)
@@ -57,7 +59,7 @@ module _ (pixels : List ℕ) (n : ℕ) (a : Accepted pixels n) where
       record {
         long = length-at pixelSize n k pixels (le-of-eq (sym (a .long))) h;
         bytes = bytes-at pixelSize k pixels (a .bytes);
-        passes = holds-passes (recordAt pixelSize k pixels) (a .each k h);
+        passes = holds-passes acesCheck (recordAt pixelSize k pixels) (a .each k h);
       }
 
   -- is converted whole, with room for n ACES records

@@ -23,7 +23,7 @@ use Rattle.rules.specs.declared.Triple.{Triple}
 use Rattle.rules.specs.Refusal.{then, numberOfCheck}
 use Rattle.rules.specs.Result.{Result, done, refusedBy, single, stripResult}
 use Rattle.rules.specs.declared.Check.the-variants.{Passed}
-use Rattle.rules.specs.Setting.{settingCheck, codeCheck, Valid}
+use Rattle.rules.specs.Setting.{acesCheck, codeCheck, Valid}
 use Rattle.rules.specs.Decoding.{DecodesCode}
 use Rattle.rules.specs.WayBack.{codesFound, foundCheck}
 use Rattle.rules.specs.Exact.{scaleOf}
@@ -141,7 +141,7 @@ way-back-returns pixels output n a room =
     (back.back-written pixelToAces aces-long acesToPixel taken-back pixels (acesStrip pixels) n (a .bytes) w output))
 
 refusal-positive : (s : Setting) → 0 < refusalOf s
-refusal-positive s = go (settingCheck s)
+refusal-positive s = go (acesCheck s)
   where
     go : (x : Check) → 0 < numberOfCheck (then x (check.Check.Refused NoPixel))
     go check.Check.Passed = number-positive NoPixel
@@ -238,12 +238,12 @@ module _ (s : Setting) (a : Triple) where
   -- 4 and 5 of one record: what the way back gives is a refusal of a record without a pixel, or the only pixel that gives it
   pub one-record : GivesOnly s a (wayBackResult s a)
   unfolding wayBackResult
-  one-record = go (settingCheck s) refl (pixelFor s a) refl
+  one-record = go (acesCheck s) refl (pixelFor s a) refl
     where
-      refused : (x : Check) → settingCheck s ≡ x → WithoutPixel s a → GivesOnly s a (refusedBy (numberOfCheck (then x (check.Check.Refused NoPixel))) 0)
+      refused : (x : Check) → acesCheck s ≡ x → WithoutPixel s a → GivesOnly s a (refusedBy (numberOfCheck (then x (check.Check.Refused NoPixel))) 0)
       refused x e w = subst (λ (y : Check). GivesOnly s a (refusedBy (numberOfCheck (then y (check.Check.Refused NoPixel))) 0)) e (GivesOnly.refuses w)
 
-      go : (x : Check) → settingCheck s ≡ x → (f : Found) → pixelFor s a ≡ f → GivesOnly s a (single (then (settingCheck s) (foundCheck (pixelFor s a))) (codesFound (pixelFor s a)))
+      go : (x : Check) → acesCheck s ≡ x → (f : Found) → pixelFor s a ≡ f → GivesOnly s a (single (then (acesCheck s) (foundCheck (pixelFor s a))) (codesFound (pixelFor s a)))
       go (check.Check.Refused why) e f g = rw e (refused (check.Check.Refused why) e (WithoutPixel.no-setting (λ v. refused-never (sym e ∙ v))))
       go check.Check.Passed e (found.Found.Pixel p) g =
           let r = found-gives s a p g in

@@ -15,6 +15,14 @@ use Rattle.rules.specs.Encoding.{sceneCheck}
 use Rattle.rules.specs.Record.{IsBytes, codeBytes, numberBytes, ofBits, settingOf, channelAt, numbersSize}
 use Rattle.rules.specs.Strip.{Conversion, recordAt, resultOf, stripAfter}
 use Rattle.decode.specs.Decoded.{decoded}
+use Rattle.promise.specs.Words.{HoldsPixelBy, AcceptedBy}
+
+-- a pixel record and a pixel strip that decoding accepts: there a setting of curve 2 is valid too
+abbrev pub HoldsCodes : List ℕ → Type 0
+HoldsCodes = HoldsPixelBy Valid
+
+abbrev pub AcceptedCodes : (pixels : List ℕ) (n : ℕ) → Type 0
+AcceptedCodes = AcceptedBy Valid
 
 -- a scene strip that encoding accepts: a whole number of records, and each holds a valid setting
 -- and three numbers that pass check 7

@@ -1,4 +1,5 @@
--- 01, "ACES and the way back": "Words of demand 3, for these two conversions." A valid setting is Valid, a pixel of it IsPixel.
+-- 01, "ACES and the way back": "Words of demand 3, for these two conversions." A valid setting is ValidForAces, a pixel of it IsPixel: 02,
+-- item 3: "the promise about equal ACES strips covers curves 3 and 4 .. there a setting of curve 2 isn't valid".
 -- Assumes nothing.
 use mathlib.Core.List.{List, _++_}
 use mathlib.Core.Path.{_≡_}
@@ -12,7 +13,7 @@ use Rattle.rules.specs.declared.Setting.{Setting}
 use Rattle.rules.specs.declared.Triple.{Triple}
 use Rattle.rules.specs.Refusal.{then, numberOfCheck}
 use Rattle.rules.specs.Result.{Result, done, refusedBy}
-use Rattle.rules.specs.Setting.{stepOf, settingCheck, Valid}
+use Rattle.rules.specs.Setting.{stepOf, acesCheck, ValidForAces}
 use Rattle.rules.specs.Exact.{scaleOf}
 use Rattle.rules.specs.ExactRow.{acesTolerance, WithinRow}
 use Rattle.rules.specs.Matrix.{matrixOf}
@@ -28,14 +29,22 @@ abbrev pub given : Setting → Pixel → List ℕ
 given s p = acesRecord s (pixelAces s p)
 
 -- "A pixel strip is accepted where it is a whole number of records and each holds a valid setting and a pixel of it"
-pub record HoldsPixel (r : List ℕ) : Type 0 where
-  pub valid : Valid (settingOf r)
+-- (P says which settings are valid)
+pub record HoldsPixelBy (P : Setting → Type 0) (r : List ℕ) : Type 0 where
+  pub valid : P (settingOf r)
   pub pixel : IsPixel (settingOf r) (pixelIn r)
 
-pub record Accepted (pixels : List ℕ) (n : ℕ) : Type 0 where
+pub record AcceptedBy (P : Setting → Type 0) (pixels : List ℕ) (n : ℕ) : Type 0 where
   pub bytes : IsBytes pixels
   pub long : length pixels ≡ n * pixelSize
-  pub each : (k : ℕ) → k < n → HoldsPixel (recordAt pixelSize k pixels)
+  pub each : (k : ℕ) → k < n → HoldsPixelBy P (recordAt pixelSize k pixels)
+
+-- for these two conversions
+abbrev pub HoldsPixel : List ℕ → Type 0
+HoldsPixel = HoldsPixelBy ValidForAces
+
+abbrev pub Accepted : (pixels : List ℕ) (n : ℕ) → Type 0
+Accepted = AcceptedBy ValidForAces
 
 -- the ACES strip that numbers of the codes make of a pixel strip: "one record for each of its records, in order, without the bytes beyond
 -- the last"
@@ -68,13 +77,13 @@ NearExact i r a = WithinRow acesTolerance (matrixOf (settingOf r)) i (scaleOf (s
 
 -- an ACES record that "has no valid setting or no pixel of its setting gives it"
 pub data Without (r : List ℕ) : Type 0 where
-  no-setting : (Valid (settingOf r) → ⊥) → Without r
+  no-setting : (ValidForAces (settingOf r) → ⊥) → Without r
   no-pixel : ((p : Pixel) → IsPixel (settingOf r) p → given (settingOf r) p ≡ r → ⊥) → Without r
 
 -- an ACES record r and "the only pixel of its setting that gives it", in the pixel record out
 pub record OnlyPixel (r out : List ℕ) : Type 0 where
   pub pixel : Pixel
-  pub valid : Valid (settingOf r)
+  pub valid : ValidForAces (settingOf r)
   pub is-pixel : IsPixel (settingOf r) pixel
   pub gives : given (settingOf r) pixel ≡ r
   pub only : (q : Pixel) → IsPixel (settingOf r) q → given (settingOf r) q ≡ r → q ≡ pixel
@@ -82,7 +91,7 @@ pub record OnlyPixel (r out : List ℕ) : Type 0 where
 
 -- the number by which the way back refuses under a setting: that of the setting's first check that fails, else 10
 abbrev pub refusalOf : Setting → ℕ
-refusalOf s = numberOfCheck (then (settingCheck s) (Refused NoPixel))
+refusalOf s = numberOfCheck (then (acesCheck s) (Refused NoPixel))
 
 -- some of n records has "no valid setting or no pixel of its setting gives it"
 pub record SomeWithout (aces : List ℕ) (n : ℕ) : Type 0 where
@@ -109,12 +118,12 @@ pub record ReportsFirst (aces : List ℕ) (n : ℕ) (result : Result ℕ) : Type
 
 -- "no valid setting or no pixel of its setting gives it"
 pub data WithoutPixel (s : Setting) (a : Triple) : Type 0 where
-  no-setting : (Valid s → ⊥) → WithoutPixel s a
+  no-setting : (ValidForAces s → ⊥) → WithoutPixel s a
   no-pixel : ((p : Pixel) → IsPixel s p → pixelAces s p ≡ a → ⊥) → WithoutPixel s a
 
 -- "the only pixel of its setting that gives it"
 pub record IsOnlyPixel (s : Setting) (a : Triple) (p : Pixel) : Type 0 where
-  pub valid : Valid s
+  pub valid : ValidForAces s
   pub is-pixel : IsPixel s p
   pub gives : pixelAces s p ≡ a
   pub only : (q : Pixel) → IsPixel s q → pixelAces s q ≡ a → q ≡ p

@@ -11,6 +11,7 @@ use Rattle.rules.specs.declared.Setting.{Setting}
 use Rattle.rules.specs.Record.{settingOf, settingBytes, codeBytes, numberBytes}
 use Rattle.rules.specs.Setting.{Valid}
 use Rattle.rules.proofs.Records.{length-record}
+use Rattle.rules.proofs.Settings.{aces-valid}
 use Rattle.record_conversion.specs.declared.Kind.{Kind}
 use Rattle.record_conversion.specs.declared.Kind.the-variants.{PixelToScene, SceneToPixel, PixelToAces, AcesToPixel}
 use Rattle.record_conversion.specs.Conversions.{conversionOf}
@@ -18,8 +19,8 @@ use Rattle.record_conversion.specs.Conversions.{conversionOf}
 pub kind-valid : (k : Kind) (s : Setting) → conversionOf k .setting s ≡ Passed → Valid s
 kind-valid PixelToScene s e = e
 kind-valid SceneToPixel s e = e
-kind-valid PixelToAces s e = e
-kind-valid AcesToPixel s e = e
+kind-valid PixelToAces s e = aces-valid s e
+kind-valid AcesToPixel s e = aces-valid s e
 
 pub from-large : (k : Kind) → settingBytes ≤ conversionOf k .from
 from-large PixelToScene = lit≤ tt

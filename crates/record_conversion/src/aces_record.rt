@@ -2,7 +2,7 @@
 ghost use mathlib.Core.Path.{_≡_};
 ghost use lib.ListN.{length};
 ghost use Rattle.rules.specs.declared.Check.the-variants.{Passed};
-ghost use Rattle.rules.specs.Setting.{codeCheck};
+ghost use Rattle.rules.specs.Setting.{codeCheck, ValidForAces};
 ghost use Rattle.rules.specs.WayBack.{foundCheck};
 ghost use Rattle.decode.specs.Ready.{Ready};
 ghost use Rattle.way_back.specs.Back.{pixelFor};
@@ -28,6 +28,7 @@ pub fn write_triple(s: Setting, d: Decoder, t: &[u64; 128], r: &[u8], out: &mut 
 // The check of an ACES record: refusal 10.
 pub fn check_triple(s: Setting, d: Decoder, t: &[u64; 128], r: &[u8]) -> Check
     requires { ⌜ Ready s d (now t) ⌝ }
+    requires { ⌜ ValidForAces s ⌝ }
     requires { ⌜ length (now r) ≡ numbersSize ⌝ }
     ensures { λ x. ⌜ x ≡ foundCheck (pixelFor s (tripleIn (now (r .entry)))) ⌝ }
 {
@@ -37,6 +38,7 @@ pub fn check_triple(s: Setting, d: Decoder, t: &[u64; 128], r: &[u8]) -> Check
 // What is written for an ACES record that passes: the record of the pixel that gives it.
 pub fn write_back(s: Setting, d: Decoder, t: &[u64; 128], r: &[u8], out: &mut [u8])
     requires { ⌜ Ready s d (now t) ⌝ }
+    requires { ⌜ ValidForAces s ⌝ }
     requires { ⌜ length (now r) ≡ numbersSize ⌝ }
     requires { ⌜ foundCheck (pixelFor s (tripleIn (now r))) ≡ Passed ⌝ }
     requires { ⌜ length (now out) ≡ pixelSize ⌝ }

@@ -57,15 +57,15 @@ pub fn check_setting(k: Kind, s: Setting) -> Check
     match k {
         Kind::PixelToScene => setting::check_setting(s),
         Kind::SceneToPixel => setting::check_setting(s),
-        Kind::PixelToAces => setting::check_setting(s),
-        Kind::AcesToPixel => setting::check_setting(s),
+        Kind::PixelToAces => setting::check_for_aces(s),
+        Kind::AcesToPixel => setting::check_for_aces(s),
     }
 }
 
 // The checks of a record after its setting's.
 pub fn check_inner(k: Kind, s: Setting, d: Decoder, t: &[u64; 128], r: &[u8]) -> Check
     requires { ⌜ Ready s d (now t) ⌝ }
-    requires { ⌜ (s ≡ settingOf (now r)) × (length (now r) ≡ conversionOf k .from) ⌝ }
+    requires { ⌜ (s ≡ settingOf (now r)) × (length (now r) ≡ conversionOf k .from) × (conversionOf k .setting s ≡ Passed) ⌝ }
     ensures { λ x. ⌜ x ≡ conversionOf k .inner (now (r .entry)) ⌝ }
 {
     match k {
@@ -79,7 +79,7 @@ pub fn check_inner(k: Kind, s: Setting, d: Decoder, t: &[u64; 128], r: &[u8]) ->
 // What is written for a record that passes.
 pub fn write_record(k: Kind, s: Setting, d: Decoder, t: &[u64; 128], r: &[u8], out: &mut [u8])
     requires { ⌜ Ready s d (now t) ⌝ }
-    requires { ⌜ (s ≡ settingOf (now r)) × (length (now r) ≡ conversionOf k .from) × (conversionOf k .inner (now r) ≡ Passed) ⌝ }
+    requires { ⌜ (s ≡ settingOf (now r)) × (length (now r) ≡ conversionOf k .from) × (conversionOf k .inner (now r) ≡ Passed) × (conversionOf k .setting s ≡ Passed) ⌝ }
     requires { ⌜ length (now out) ≡ conversionOf k .to ⌝ }
     ensures { λ _. ⌜ now (out .exit) ≡ conversionOf k .bytes (now (r .entry)) ⌝ }
 {
@@ -94,7 +94,7 @@ pub fn write_record(k: Kind, s: Setting, d: Decoder, t: &[u64; 128], r: &[u8], o
 // An ACES record on the way back, in one step: its check, refusal 10, and where it passes what is written for it.
 pub fn convert_aces(s: Setting, d: Decoder, t: &[u64; 128], r: &[u8], out: &mut [u8]) -> Check
     requires { ⌜ Ready s d (now t) ⌝ }
-    requires { ⌜ (s ≡ settingOf (now r)) × (length (now r) ≡ acesToPixel .from) ⌝ }
+    requires { ⌜ (s ≡ settingOf (now r)) × (length (now r) ≡ acesToPixel .from) × (acesToPixel .setting s ≡ Passed) ⌝ }
     requires { ⌜ length (now out) ≡ acesToPixel .to ⌝ }
     ensures { λ x. ⌜ x ≡ acesToPixel .inner (now (r .entry)) ⌝ }
     ensures { λ x. ⌜ now (out .exit) ≡ stretchAfter x (acesToPixel .bytes (now (r .entry))) (now (out .entry)) ⌝ }

@@ -3,7 +3,7 @@
 use mathlib.Core.Path.{_≡_, refl}
 use Rattle.rules.specs.declared.Check.the-variants.{Passed}
 use Rattle.rules.specs.declared.Setting.{Setting}
-use Rattle.rules.specs.Setting.{settingCheck, Valid}
+use Rattle.rules.specs.Setting.{settingCheck, acesCheck, Valid}
 use Rattle.record_conversion.specs.declared.Kind.{Kind}
 use Rattle.record_conversion.specs.declared.Kind.the-variants.{PixelToScene, SceneToPixel, PixelToAces, AcesToPixel}
 use Rattle.record_conversion.specs.Conversions.{conversionOf}
@@ -16,7 +16,7 @@ unfolding settingCheck
 first-valid = refl
 
 pub first-passes : (k : Kind) → conversionOf k .setting first ≡ Passed
-unfolding settingCheck
+unfolding settingCheck acesCheck
 first-passes PixelToScene = refl
 first-passes SceneToPixel = refl
 first-passes PixelToAces = refl

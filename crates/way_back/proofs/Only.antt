@@ -12,12 +12,12 @@ use Rattle.rules.specs.declared.Triple.{Triple}
 use Rattle.rules.specs.declared.Check.the-variants.{Passed}
 use Rattle.rules.specs.declared.Found.{Found}
 use Rattle.rules.specs.declared.Found as found
-use Rattle.rules.specs.Setting.{codeAt, lastOf, codeCheck, Valid}
+use Rattle.rules.specs.Setting.{codeAt, lastOf, codeCheck, Valid, ValidForAces}
 use Rattle.rules.specs.Decoding.{DecodesCode}
 use Rattle.rules.specs.Matrix.{matrixOf}
 use Rattle.rules.specs.Choice.{choose}
 use Rattle.rules.specs.WayBack.{within3, tried, pixelWith, foundCheck}
-use Rattle.rules.proofs.Settings.{for-valid, refused-never}
+use Rattle.rules.proofs.Settings.{for-valid, aces-valid, refused-never}
 use Rattle.rules.proofs.Search as search
 use Rattle.decode.specs.Decoded.{decoded}
 use Rattle.decode.specs.Gap.{gapOf}
@@ -45,9 +45,9 @@ exact-enough s v = (ltb→lt 4 (gapOf s) (for-valid (λ c w i. ltb 4 (gapOf (rec
 abbrev pub GivesBy : (e : ℕ) (number : ℕ → ℤ) → Setting → Triple → Pixel → Type 0
 GivesBy e number s a q = search.Gives e number (matrixOf s) (codeAt s) (lastOf s) a q
 
-module _ (s : Setting) (v : Valid s) (number : ℕ → ℤ) (allowed : (n : ℕ) → codeCheck s n ≡ Passed → DecodesCode s n (number n)) (e : ℕ) (t : NearEnough e s) (a : Triple) (q : Pixel) (g : GivesBy e number s a q) where
+module _ (s : Setting) (v : ValidForAces s) (number : ℕ → ℤ) (allowed : (n : ℕ) → codeCheck s n ≡ Passed → DecodesCode s n (number n)) (e : ℕ) (t : NearEnough e s) (a : Triple) (q : Pixel) (g : GivesBy e number s a q) where
   small : (n : ℕ) → codeCheck s n ≡ Passed → natAbs (number n) ≤ 2 ^ 33
-  small n h = decodes-small s v n h (number n) (allowed n h)
+  small n h = decodes-small s (aces-valid s v) n h (number n) (allowed n h)
 
   scenes-small : Small3 (2 ^ 33) (number (q .red .0)) (number (q .green .0)) (number (q .blue .0))
   scenes-small =
@@ -63,7 +63,7 @@ module _ (s : Setting) (v : Valid s) (number : ℕ → ℤ) (allowed : (n : ℕ)
 
   code-by : (i n : ℕ) → codeCheck s n ≡ Passed → Near (candidate s i (a .red .0) (a .green .0) (a .blue .0)) (number n) (2 * e + 1) → codeFor s i a ≡ n
   code-by i n h c =
-      encode-near s v (2 * e + 1 + 1) (t .0) (candidate s i (a .red .0) (a .green .0) (a .blue .0)) n h (near-join c (decodes-near s v n h (number n) (allowed n h)))
+      encode-near s (aces-valid s v) (2 * e + 1 + 1) (t .0) (candidate s i (a .red .0) (a .green .0) (a .blue .0)) n h (near-join c (decodes-near s (aces-valid s v) n h (number n) (allowed n h)))
 
   -- THE ONLY PIXEL: what gives the numbers is the candidate
   pub only-candidate-by : q ≡ candidatePixel s a
@@ -89,12 +89,12 @@ candidate-passes s a i = encoded-passes s (candidate s i (a .red .0) (a .green .
 pub candidate-is-pixel : (s : Setting) (a : Triple) → IsPixel s (candidatePixel s a)
 candidate-is-pixel s a = record { red = candidate-passes s a 0; green = candidate-passes s a 1; blue = candidate-passes s a 2 }
 
-module _ (e : ℕ) (s : Setting) (v : Valid s) (t : NearEnough e s) (a : Triple) where
+module _ (e : ℕ) (s : Setting) (v : ValidForAces s) (t : NearEnough e s) (a : Triple) where
   pub reached : (q : Pixel) → PixelGives e s a q → allInReach a ≡ true
-  reached q g = reached-by s v (decoded s) (decoding s v) e t a q g
+  reached q g = reached-by s v (decoded s) (decoding s (aces-valid s v)) e t a q g
 
   pub only-candidate : (q : Pixel) → PixelGives e s a q → q ≡ candidatePixel s a
-  only-candidate q g = only-candidate-by s v (decoded s) (decoding s v) e t a q g
+  only-candidate q g = only-candidate-by s v (decoded s) (decoding s (aces-valid s v)) e t a q g
 
   candidate-gives : within3 e a (pixelAces s (candidatePixel s a)) ≡ true → PixelGives e s a (candidatePixel s a)
   candidate-gives h =

@@ -7,9 +7,10 @@ use Rattle.rules.specs.declared.Setting.{Setting}
 use Rattle.rules.specs.declared.Triple.{Triple}
 use Rattle.rules.specs.declared.Found.{Found}
 use Rattle.rules.specs.declared.Found as found
-use Rattle.rules.specs.Setting.{codeAt, lastOf, Valid}
+use Rattle.rules.specs.Setting.{codeAt, lastOf, ValidForAces}
 use Rattle.rules.specs.Matrix.{matrixOf}
 use Rattle.rules.proofs.Search as search
+use Rattle.rules.proofs.Settings.{aces-valid}
 use Rattle.decode.specs.Decoded.{decoded}
 use Rattle.way_back.specs.Back.{pixelFor}
 use Rattle.way_back.proofs.Only.{PixelGives, exact-enough, only-candidate}
@@ -39,18 +40,18 @@ found-gives s a p e =
       search.exact-found decoded s a p e,
     )
 
-module _ (s : Setting) (v : Valid s) where
+module _ (s : Setting) (v : ValidForAces s) where
   -- two pixels with the same ACES numbers are one
   pub one-pixel : (p q : Pixel) → IsPixel s p → IsPixel s q → pixelAces s p ≡ pixelAces s q → p ≡ q
   one-pixel p q i j e =
-      only-candidate 0 s v (exact-enough s v) (pixelAces s q) p (to-gives s (pixelAces s q) p i e) ∙ sym (only-candidate 0 s v (exact-enough s v) (pixelAces s q) q (to-gives s (pixelAces s q) q j refl))
+      only-candidate 0 s v (exact-enough s (aces-valid s v)) (pixelAces s q) p (to-gives s (pixelAces s q) p i e) ∙ sym (only-candidate 0 s v (exact-enough s (aces-valid s v)) (pixelAces s q) q (to-gives s (pixelAces s q) q j refl))
 
   -- a pixel is found from its own ACES numbers
   pub own-found : (p : Pixel) → IsPixel s p → pixelFor s (pixelAces s p) ≡ found.Found.Pixel p
   unfolding pixelBy
   own-found p i =
       search.gives-found 0 (decoded s) (matrixOf s) (codeAt s) (lastOf s) (pixelAces s p) p
-      (λ q g. only-candidate 0 s v (exact-enough s v) (pixelAces s p) q g ∙ sym (only-candidate 0 s v (exact-enough s v) (pixelAces s p) p (to-gives s (pixelAces s p) p i refl)))
+      (λ q g. only-candidate 0 s v (exact-enough s (aces-valid s v)) (pixelAces s p) q g ∙ sym (only-candidate 0 s v (exact-enough s (aces-valid s v)) (pixelAces s p) p (to-gives s (pixelAces s p) p i refl)))
       (to-gives s (pixelAces s p) p i refl)
 
   -- nothing is found exactly where no pixel gives the numbers

@@ -22,6 +22,6 @@ abbrev pub backResult : Back → Result ℕ
 backResult (back.Back.Pixel p) = done (codes p)
 backResult (back.Back.Refused why) = refusedBy (numberOf why) 0
 
--- the codes of the pixel that gives the numbers, or the refusal of the first check that fails: 3, 4, 5, then 10
+-- the codes of the pixel that gives the numbers, or the refusal of the first check that fails: 3, 4, 5, 12, then 10
 unfoldable pub wayBackResult : Setting → Triple → Result ℕ
 wayBackResult = wayBackBy decoded

@@ -8,7 +8,7 @@ use Rattle.rules.specs.declared.Setting.{Setting}
 use Rattle.rules.specs.declared.Pixel.{Pixel}
 use Rattle.rules.specs.declared.Triple.{Triple}
 use Rattle.rules.specs.Choice.{choose, allThree}
-use Rattle.rules.specs.Matrix.{minus}
+use Rattle.whole.specs.Parts.{minus}
 use Rattle.encode.specs.Encoded.{encoded}
 use Rattle.aces_inverse.specs.Inverse.{candidate}
 use Rattle.rules.specs.Pixels.{pixel}

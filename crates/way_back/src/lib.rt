@@ -4,7 +4,7 @@ ghost use Rattle.rules.specs.declared.Check.the-variants.{Passed};
 ghost use Rattle.rules.specs.declared.Found as found;
 ghost use Rattle.rules.specs.Choice.{allThree};
 ghost use Rattle.rules.specs.Result.{single};
-ghost use Rattle.rules.specs.Setting.{Valid};
+ghost use Rattle.rules.specs.Setting.{ValidForAces};
 ghost use Rattle.rules.specs.Matrix.{matrixOf};
 ghost use Rattle.rules.specs.WayBack.{within, within3, tried, codesFound, foundCheck};
 ghost use Rattle.aces_inverse.specs.Reach.{InReach};
@@ -69,6 +69,7 @@ fn same_triple(a: Triple, b: Triple) -> bool
 // The only pixel that can give the numbers.
 fn candidate(s: Setting, d: Decoder, t: &[u64; 128], a: Triple) -> Pixel
     requires { ⌜ Ready s d (now t) ⌝ }
+    requires { ⌜ ValidForAces s ⌝ }
     requires { ⌜ InReach (a .red .0) (a .green .0) (a .blue .0) ⌝ }
     ensures { λ p. ⌜ p ≡ candidatePixel s a ⌝ }
 {
@@ -92,6 +93,7 @@ fn try_pixel(s: Setting, d: Decoder, t: &[u64; 128], p: Pixel, a: Triple) -> Fou
 // The pixel that gives the numbers: the candidate, where it gives them.
 pub fn find(s: Setting, d: Decoder, t: &[u64; 128], a: Triple) -> Found
     requires { ⌜ Ready s d (now t) ⌝ }
+    requires { ⌜ ValidForAces s ⌝ }
     ensures { λ f. ⌜ f ≡ pixelFor s a ⌝ }
 {
     if all_in_reach(a) {
@@ -104,6 +106,7 @@ pub fn find(s: Setting, d: Decoder, t: &[u64; 128], a: Triple) -> Found
 // Refusal 10.
 pub fn check_aces(s: Setting, d: Decoder, t: &[u64; 128], a: Triple) -> Check
     requires { ⌜ Ready s d (now t) ⌝ }
+    requires { ⌜ ValidForAces s ⌝ }
     ensures { λ x. ⌜ x ≡ foundCheck (pixelFor s a) ⌝ }
 {
     match find(s, d, t, a) {
@@ -115,6 +118,7 @@ pub fn check_aces(s: Setting, d: Decoder, t: &[u64; 128], a: Triple) -> Check
 // The pixel that gives numbers that passed the check: the candidate, which need not be tried again.
 pub fn pixel_of(s: Setting, d: Decoder, t: &[u64; 128], a: Triple) -> Pixel
     requires { ⌜ Ready s d (now t) ⌝ }
+    requires { ⌜ ValidForAces s ⌝ }
     requires { ⌜ foundCheck (pixelFor s a) ≡ Passed ⌝ }
     ensures { λ p. ⌜ found.Found.Pixel p ≡ pixelFor s a ⌝ }
 {
@@ -122,7 +126,7 @@ pub fn pixel_of(s: Setting, d: Decoder, t: &[u64; 128], a: Triple) -> Pixel
 }
 
 fn way_back_valid(s: Setting, a: Triple) -> Back
-    requires { ⌜ Valid s ⌝ }
+    requires { ⌜ ValidForAces s ⌝ }
     ensures { λ r. ⌜ backResult r ≡ single (foundCheck (pixelFor s a)) (codesFound (pixelFor s a)) ⌝ }
 {
     let d = Decoder::new(s);
@@ -133,11 +137,12 @@ fn way_back_valid(s: Setting, a: Triple) -> Back
     }
 }
 
-// The way back over one record: the only pixel that gives the numbers, or the refusal of the first check that fails: 3, 4, 5, then 10.
+// The way back over one record: the only pixel that gives the numbers, or the refusal of the first check that fails: 3, 4, 5,
+// 12, then 10.
 pub fn way_back(s: Setting, a: Triple) -> Back
     ensures { λ r. ⌜ backResult r ≡ wayBackResult s a ⌝ }
 {
-    match setting::check_setting(s) {
+    match setting::check_for_aces(s) {
         Check::Refused(r) => Back::Refused(r),
         Check::Passed => way_back_valid(s, a),
     }

@@ -23,7 +23,7 @@ module _ (c : tie.After-scene3) where
 aces-requires : tie.Need-aces-requires
 aces-requires c κs =
     let p = s c .pre .1 in
-    (s c .pre .0 .valid, (number c _ (p .red) (c .before .before .scene .ensures), (number c _ (p .green) (c .before .scene2 .ensures), number c _ (p .blue) (c .scene3 .ensures))))
+    (number c _ (p .red) (c .before .before .scene .ensures), (number c _ (p .green) (c .before .scene2 .ensures), number c _ (p .blue) (c .scene3 .ensures)))
 
 returns : tie.Need-returns
 returns c =

@@ -22,6 +22,12 @@ valid s = ap (pixelToAces .setting) (sym (s .pre .1 .0)) ∙ s .pre .0
 passes : (c : tie.After-enum-told) → pixelToAces .inner (now (c .before .before .before .before .before .before .before .args .r)) ≡ Passed
 passes c = sym (c .before .before .check-inner .ensures) ∙ c .enum-told .given .1
 
+check-inner-requires : tie.Need-check-inner-requires
+check-inner-requires c κs =
+    let t = c .before in
+    let s = t .before .before .before in
+    (record { valid = kind-valid PixelToAces _ (s .pre .0); decoder = t .before .new .ensures; table = t .table .ensures }, (s .pre .1 .0, s .pre .1 .1, s .pre .0))
+
 of-pixel-requires : tie.Need-of-pixel-requires
 of-pixel-requires c κs =
     let t = c .before .before .before .before .before .before in
@@ -49,4 +55,4 @@ returns-2 c =
 pub judge-valid-spec : {M : Type 1} → statement M
 judge-valid-spec =
     tie.close
-    (tie.spec (λ c κs. search needs) (λ c κs. search needs) (λ c κs. search needs) (λ c. search needs) (λ c. search needs) (λ c κs. search needs) of-pixel-requires returns returns-2)
+    (tie.spec (λ c κs. kind-valid PixelToAces _ (c .before .pre .0)) (λ c κs. search needs) check-inner-requires (λ c. search needs) (λ c. search needs) (λ c κs. search needs) of-pixel-requires returns returns-2)

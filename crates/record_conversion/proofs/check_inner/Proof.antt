@@ -24,7 +24,10 @@ check-codes-requires-2 : tie.Need-check-codes-requires-2
 check-codes-requires-2 c κs = (c .before .before .before .pre .0 .valid, c .before .before .before .pre .1 .1 ∙ ap (λ (x : Kind). conversionOf x .from) (c .enum-told3 .given .1))
 
 check-triple-requires : tie.Need-check-triple-requires
-check-triple-requires c κs = (c .before .before .before .pre .0, c .before .before .before .pre .1 .1 ∙ ap (λ (x : Kind). conversionOf x .from) (c .enum-told4 .given .1))
+check-triple-requires c κs =
+    let s = c .before .before .before in
+    let told = c .enum-told4 .given .1 in
+    (s .pre .0, (sym (ap (λ (x : Kind). conversionOf x .setting (s .args .s)) told) ∙ s .pre .1 .2, s .pre .1 .1 ∙ ap (λ (x : Kind). conversionOf x .from) told))
 
 returns : tie.Need-returns
 returns c =

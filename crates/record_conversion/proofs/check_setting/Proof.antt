@@ -11,10 +11,10 @@ returns-2 : tie.Need-returns-2
 returns-2 c = rw (c .before .enum-told2 .given .1) (c .check-setting2 .ensures)
 
 returns-3 : tie.Need-returns-3
-returns-3 c = rw (c .before .enum-told3 .given .1) (c .check-setting3 .ensures)
+returns-3 c = rw (c .before .enum-told3 .given .1) (c .check-for-aces .ensures)
 
 returns-4 : tie.Need-returns-4
-returns-4 c = rw (c .before .enum-told4 .given .1) (c .check-setting4 .ensures)
+returns-4 c = rw (c .before .enum-told4 .given .1) (c .check-for-aces2 .ensures)
 
 pub check-setting-spec : {M : Type 1} → statement M
 check-setting-spec =

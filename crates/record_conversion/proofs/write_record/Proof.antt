@@ -41,7 +41,7 @@ write-back-requires c κs =
     let p = c .before .before .before .before .before .pre in
     let told = c .before .enum-told4 .given .1 in
     let r = now (c .before .before .before .before .before .args .r) in
-    (p .0, (p .1 .0 .1 ∙ ap (λ (x : Kind). conversionOf x .from) told, (ap (λ (s : Setting). foundCheck (pixelFor s (tripleIn r))) (p .1 .0 .0) ∙ sym (ap (λ (x : Kind). conversionOf x .inner r) told) ∙ p .1 .0 .2, p .1 .1 ∙ ap (λ (x : Kind). conversionOf x .to) told)))
+    (p .0, (sym (ap (λ (x : Kind). conversionOf x .setting (c .before .before .before .before .before .args .s)) told) ∙ p .1 .0 .3, (p .1 .0 .1 ∙ ap (λ (x : Kind). conversionOf x .from) told, (ap (λ (s : Setting). foundCheck (pixelFor s (tripleIn r))) (p .1 .0 .0) ∙ sym (ap (λ (x : Kind). conversionOf x .inner r) told) ∙ p .1 .0 .2, p .1 .1 ∙ ap (λ (x : Kind). conversionOf x .to) told))))
 
 returns : tie.Need-returns
 returns c =

@@ -73,7 +73,7 @@ convert-aces-requires : tie.Need-convert-aces-requires Inv-loop μ-loop
 convert-aces-requires c κs =
     let h = c .before .before .before .before .before .before in
     let k = ready (c .before .before) in
-    (k .0, ((k .1 ∙ c .before .before .before .before .setting-of .ensures, read (c .before .before .before .before .before) .long), length-lent (h .before .loop .i) (h .before .loop .buffer) refl (room h)))
+    (k .0, ((k .1 ∙ c .before .before .before .before .setting-of .ensures, read (c .before .before .before .before .before) .long, k .2), length-lent (h .before .loop .i) (h .before .loop .buffer) refl (room h)))
 
 checked : (c : tie.After-convert-aces Inv-loop μ-loop) → recordCheck acesToPixel (recordAt (acesToPixel .from) (c .before .before .before .before .before .before .before .before .loop .i) (now (c .before .before .before .before .before .before .before .before .before .before .before .before .before .args .input))) ≡ c .convert-aces .result
 checked c =

@@ -62,7 +62,7 @@ ready c =
     (c .if1 .came)
 
 check-inner-requires : tie.Need-check-inner-requires Inv-loop μ-loop
-check-inner-requires c κs = let k = ready (c .before) in (k .0, (k .1 ∙ c .before .before .before .setting-of .ensures, read (c .before .before .before .before) .long))
+check-inner-requires c κs = let k = ready (c .before) in (k .0, (k .1 ∙ c .before .before .before .setting-of .ensures, read (c .before .before .before .before) .long, k .2))
 
 checked : (c : tie.After-check-inner Inv-loop μ-loop) → recordCheck (conversionOf (c .before .before .before .before .before .before .before .before .before .before .before .before .args .k)) (recordAt (size (c .before .before .before .before .before .before)) (c .before .before .before .before .before .before .before .loop .i) (now (c .before .before .before .before .before .before .before .before .before .before .before .before .args .input))) ≡ c .check-inner .result
 checked c =

@@ -55,7 +55,7 @@ write-record-requires : tie.Need-write-record-requires Inv-loop μ-loop
 write-record-requires c κs =
     let h = c .before .before .before .before .before .before in
     let k = ready (c .before .before) in
-    (k .0, ((k .1 ∙ c .before .before .before .before .setting-of .ensures, read (c .before .before .before .before .before) .long, passes (c .before .before .before .before) .1), length-lent (h .before .loop .i) (h .before .loop .output) (h .before .before .before .before .size-to .ensures .0) (room h)))
+    (k .0, ((k .1 ∙ c .before .before .before .before .setting-of .ensures, read (c .before .before .before .before .before) .long, passes (c .before .before .before .before) .1, rw (k .1) (passes (c .before .before .before .before) .0)), length-lent (h .before .loop .i) (h .before .loop .output) (h .before .before .before .before .size-to .ensures .0) (room h)))
 
 loop-again : tie.Need-loop-again Inv-loop μ-loop
 loop-again c =

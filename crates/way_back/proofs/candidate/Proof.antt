@@ -7,7 +7,7 @@ use lib.Dec.{lit<}
 use lib.IntN.{ℤ}
 use Rattle.rules.specs.declared.Check.the-variants.{Passed}
 use Rattle.rules.specs.declared.Setting.{Setting}
-use Rattle.rules.specs.Setting.{Valid}
+use Rattle.rules.specs.Setting.{ValidForAces}
 use Rattle.rules.specs.Encoding.{sceneCheck}
 use Rattle.rules.specs.Pixels.{pixel}
 use Rattle.rules.proofs.Between.{scene-passes}
@@ -18,7 +18,7 @@ use Rattle.aces_inverse.proofs.Inverse.{candidate-small}
 use Rattle.way_back.proofs.candidate.Statement.{statement}
 use Rattle.way_back.proofs.candidate.Tie as tie
 
-passes : (s : Setting) → Valid s → {a b c x : ℤ} → InReach a b c → (k : ℕ) → k < 3 → x ≡ candidate s k a b c → sceneCheck x ≡ Passed
+passes : (s : Setting) → ValidForAces s → {a b c x : ℤ} → InReach a b c → (k : ℕ) → k < 3 → x ≡ candidate s k a b c → sceneCheck x ≡ Passed
 passes s v {a} {b} {c} g k h e = ap sceneCheck e ∙ scene-passes (candidate s k a b c) (candidate-small s v a b c g k h)
 
 returns : tie.Need-returns
@@ -31,11 +31,11 @@ pixel-of-requires : tie.Need-pixel-of-requires
 pixel-of-requires c κs =
     let s = c .before in
     let is = c .candidate .ensures in
-    let v = s .pre .0 .valid in (
+    let v = s .pre .1 .0 in (
       s .pre .0,
       (
-        passes (s .args .s) v (s .pre .1) 0 (lit< tt) (is .red-is),
-        (passes (s .args .s) v (s .pre .1) 1 (lit< tt) (is .green-is), passes (s .args .s) v (s .pre .1) 2 (lit< tt) (is .blue-is)),
+        passes (s .args .s) v (s .pre .1 .1) 0 (lit< tt) (is .red-is),
+        (passes (s .args .s) v (s .pre .1 .1) 1 (lit< tt) (is .green-is), passes (s .args .s) v (s .pre .1 .1) 2 (lit< tt) (is .blue-is)),
       ),
     )
 

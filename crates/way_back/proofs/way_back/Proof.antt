@@ -7,15 +7,15 @@ use Rattle.way_back.proofs.way_back.Statement.{statement}
 use Rattle.way_back.proofs.way_back.Tie as tie
 
 way-back-valid-requires : tie.Need-way-back-valid-requires
-way-back-valid-requires c κs = sym (c .before .before .check-setting .ensures) ∙ c .enum-told .given .1
+way-back-valid-requires c κs = sym (c .before .before .check-for-aces .ensures) ∙ c .enum-told .given .1
 
 returns : tie.Need-returns
 unfolding wayBackResult
-returns c = rw (sym (c .before .before .before .check-setting .ensures) ∙ c .before .r .given .1)
+returns c = rw (sym (c .before .before .before .check-for-aces .ensures) ∙ c .before .r .given .1)
 
 returns-2 : tie.Need-returns-2
 unfolding wayBackResult
-returns-2 c = rw (sym (c .before .before .before .check-setting .ensures) ∙ c .before .enum-told .given .1) (c .way-back-valid .ensures)
+returns-2 c = rw (sym (c .before .before .before .check-for-aces .ensures) ∙ c .before .enum-told .given .1) (c .way-back-valid .ensures)
 
 pub way-back-spec : {M : Type 1} → statement M
 way-back-spec =

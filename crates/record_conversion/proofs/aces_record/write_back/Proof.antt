@@ -15,7 +15,7 @@ use Rattle.rules.specs.Conversions.{pixelFound}
 pixel-of-requires : tie.Need-pixel-of-requires
 pixel-of-requires c κs =
     let s = c .before .before .before in
-    (s .pre .0, subst (λ (a : Triple). foundCheck (pixelFor (s .args .s) a) ≡ Passed) (sym (c .triple-in .ensures)) (s .pre .1 .1 .0))
+    (s .pre .0, (s .pre .1 .0, subst (λ (a : Triple). foundCheck (pixelFor (s .args .s) a) ≡ Passed) (sym (c .triple-in .ensures)) (s .pre .1 .1 .1 .0)))
 
 returns : tie.Need-returns
 returns c =
