@@ -1,7 +1,10 @@
 // The same curves and matrices through OpenColorIO's CPU processor, for Rust: signals (codes over the top code) to ACES, in place, and back.
+// No exception may reach Rust: the functions that it calls are noexcept, so that one of OpenColorIO's ends the program.
 #include <OpenColorIO/OpenColorIO.h>
 
 #include <cmath>
+#include <cstdio>
+#include <cstdlib>
 
 namespace OCIO = OCIO_NAMESPACE;
 
@@ -25,6 +28,17 @@ Curve log_c4()
     return {2, a, 64, b / 14, c - 6 * b / 14, t, 1 / s,
             {0.750957362824734131, 0.144422786709757084, 0.104619850465508965, 0, 0.000821837079380207, 1.007397584885003194,
              -0.008219421964383583, 0, -0.000499952143533471, -0.000854177231436971, 1.001354129374970370, 0, 0, 0, 0, 1}};
+}
+
+// A curve with an ACES matrix. (Curve 2 has none.)
+Curve with_matrix(int curve)
+{
+    switch (curve) {
+    case 3: return LOG_C3;
+    case 4: return log_c4();
+    }
+    std::fprintf(stderr, "ocio: there is no ACES matrix for curve %d\n", curve);
+    std::abort();
 }
 
 // From signals to ACES.
@@ -53,21 +67,21 @@ OCIO::GroupTransformRcPtr transform(const Curve &curve)
 
 } // namespace
 
-extern "C" void *ocio_new(int curve, int back)
+extern "C" void *ocio_new(int curve, int back) noexcept
 {
-    const auto group = transform(curve == 3 ? LOG_C3 : log_c4());
+    const auto group = transform(with_matrix(curve));
     const auto processor = OCIO::Config::CreateRaw()->getProcessor(group, back ? OCIO::TRANSFORM_DIR_INVERSE : OCIO::TRANSFORM_DIR_FORWARD);
     return new OCIO::ConstCPUProcessorRcPtr(processor->getDefaultCPUProcessor());
 }
 
 // Over an image of lines of 1024 pixels; OpenColorIO takes a line at once, and sets memory aside for it.
-extern "C" void ocio_apply(const void *processor, float *rgb, long pixels)
+extern "C" void ocio_apply(const void *processor, float *rgb, long pixels) noexcept
 {
     OCIO::PackedImageDesc image(rgb, 1024, pixels / 1024, 3);
     (*static_cast<const OCIO::ConstCPUProcessorRcPtr *>(processor))->apply(image);
 }
 
-extern "C" const char *ocio_version()
+extern "C" const char *ocio_version() noexcept
 {
     return OCIO::GetVersion();
 }

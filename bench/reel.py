@@ -30,7 +30,7 @@ def main():
         with open(pixels, "wb") as file:
             for data in reel(random.Random(1), records):
                 file.write(data)
-        print(f"a reel of {pixels.stat().st_size:,} bytes, {records:,} random pixels of all settings; {os.cpu_count()} threads", flush=True)
+        print(f"a reel of {pixels.stat().st_size:,} bytes, {records:,} random pixels of all settings with an ACES matrix; {os.cpu_count()} threads", flush=True)
         for words in ("verify", pixels), ("to-aces", pixels, aces), ("to-camera", aces, back):
             seconds, work, most = measured(program, *words)
             rate = f"{seconds:.1f} s, {records / seconds / 1e6:.1f} million records a second"

@@ -9,6 +9,10 @@
  * codes 256 to 3760. A pixel record has 10 bytes, with three codes of 2 bytes; a scene record and an ACES record have 28, with three signed
  * numbers of 8 bytes in units of 2^-24.
  *
+ * Curve 3 is LogC3 and curve 4 LogC4. Curve 2 is LogC of SUP 2.x firmware, with widths 10 and 12. Its scene numbers are units of normalised
+ * sensor value. It has no ACES numbers, since ARRI publishes no ACES matrix for it: in a conversion to or from ACES one record of curve 2
+ * refuses the whole strip, by 12.
+ *
  * Every function over strips reads in[0 .. in_len) and returns
  *   0       converted: *at is the count of records. Each record is written in its own stretch of the output, from out[0] on, and the bytes
  *           beyond the last are unchanged;
@@ -47,6 +51,7 @@ enum ropeinstant_refusal {
     ROPEINSTANT_FLOAT_OUT_OF_RANGE = 9,
     ROPEINSTANT_NO_PIXEL = 10,
     ROPEINSTANT_CODE_BELOW_FIRST = 11,
+    ROPEINSTANT_NO_MATRIX = 12,
 };
 
 /* A refusal's number in words; "converted" for 0, and "no such refusal" for a number that no function returns. */
@@ -56,7 +61,7 @@ static inline const char *ropeinstant_words(uint32_t number)
     case 0: return "converted";
     case ROPEINSTANT_PARTIAL_RECORD: return "the input is not a whole number of records";
     case ROPEINSTANT_SHORT_OUTPUT: return "the output is shorter than the records need";
-    case ROPEINSTANT_UNKNOWN_CURVE: return "the curve is neither 3 nor 4";
+    case ROPEINSTANT_UNKNOWN_CURVE: return "the curve is not 2, 3 or 4";
     case ROPEINSTANT_UNKNOWN_WIDTH: return "the width is not one of the curve's";
     case ROPEINSTANT_UNKNOWN_EI: return "the EI is not one of the curve's";
     case ROPEINSTANT_CODE_ABOVE_TOP: return "a code is above the top code of its width";
@@ -65,6 +70,7 @@ static inline const char *ropeinstant_words(uint32_t number)
     case ROPEINSTANT_FLOAT_OUT_OF_RANGE: return "a float is below -65536 or above 65536";
     case ROPEINSTANT_NO_PIXEL: return "no pixel of the setting has this ACES triple";
     case ROPEINSTANT_CODE_BELOW_FIRST: return "a code is below the first code of its width";
+    case ROPEINSTANT_NO_MATRIX: return "the curve has no ACES matrix";
     default: return "no such refusal";
     }
 }
@@ -75,10 +81,10 @@ uint32_t ropeinstant_pixel_to_scene(const uint8_t *in, size_t in_len, uint8_t *o
 /* Encoding: scene records (28 bytes) to pixel records (10 bytes), each number to the nearest code. Refuses by 1 to 5 and 7. */
 uint32_t ropeinstant_scene_to_pixel(const uint8_t *in, size_t in_len, uint8_t *out, size_t out_len, uint64_t *at);
 
-/* Pixel records (10 bytes) to ACES records (28 bytes). Refuses by 1 to 6 and 11. */
+/* Pixel records (10 bytes) to ACES records (28 bytes). Refuses by 1 to 6, 11 and 12. */
 uint32_t ropeinstant_pixel_to_aces(const uint8_t *in, size_t in_len, uint8_t *out, size_t out_len, uint64_t *at);
 
-/* The way back: ACES records (28 bytes) to the pixel records (10 bytes) with exactly these ACES numbers. Refuses by 1 to 5 and 10.
+/* The way back: ACES records (28 bytes) to the pixel records (10 bytes) with exactly these ACES numbers. Refuses by 1 to 5, 10 and 12.
  * A strip of 16 to 4096 records is converted in one pass, with a buffer of 40 KiB on the stack, and any other in two, which take almost
  * twice the time: a longer strip may be cut at a record's border and converted in parts. */
 uint32_t ropeinstant_aces_to_pixel(const uint8_t *in, size_t in_len, uint8_t *out, size_t out_len, uint64_t *at);

@@ -5,7 +5,9 @@ the rules of 01 (rules.py)."""
 import random, subprocess, sys, time
 
 from decoded import codes_of
-from rules import ACES_TO_PIXEL, NUMBERS, PIXEL, PIXEL_TO_ACES, PIXEL_TO_SCENE, SCENE_TO_PIXEL, SETTINGS, aces, apart, numbers, pixel_of
+from rules import (
+    ACES_TO_PIXEL, NUMBERS, PIXEL, PIXEL_TO_ACES, PIXEL_TO_SCENE, SCENE_TO_PIXEL, SETTINGS, WITH_MATRIX, WITHOUT_MATRIX, aces, apart, numbers, pixel_of,
+)
 from strips import ENDS, end_jobs, hold, jobs, returned
 
 STRIPS, RECORDS = 20, 50000
@@ -36,7 +38,7 @@ def mixed(pick, table, count):
     """pixel records in runs of one setting, their ACES records, and for each an ACES record with one channel one unit off"""
     pixels, made, off = [], [], []
     while len(pixels) < count:
-        s = pick.choice(SETTINGS)
+        s = pick.choice(WITH_MATRIX)
         ys, codes = table[s], codes_of(s)
         for _ in range(min(pick.choice((1, 2, 30, 100)), count - len(pixels))):
             pixel = code(pick, codes), code(pick, codes), code(pick, codes)
@@ -66,16 +68,17 @@ def million(driver, pick, table):
 
 
 def borders(driver, pick, table):
-    """strips of ACES records of chosen lengths: whole; with one record, or two, of which the first is named, that no pixel gives"""
+    """strips of ACES records of chosen lengths: whole; with one record that no pixel gives, or of a curve without a matrix, and others behind it"""
     tried = 0
     for n in BORDERS:
         pixels, made, off = mixed(pick, table, n)
         same(drive(driver, "strip", "aces-to-pixel", b"".join(made)), b"done %d\n" % n + b"".join(pixels), PIXEL.size, made)
         for k in {0, n // 2, n - 1}:
-            strip = made[:k] + off[k:k + 1] + pick.choice((made, off))[k + 1:]
-            got = drive(driver, "strip", "aces-to-pixel", b"".join(strip))
-            assert got == b"refused 10 %d\n" % k + bytes(n * PIXEL.size), (n, k, got[:40])
-            tried += 1
+            for number, wrong in (10, off[k]), (12, NUMBERS.pack(*pick.choice(WITHOUT_MATRIX), *NUMBERS.unpack(made[k])[3:])):
+                strip = made[:k] + [wrong] + pick.choice((made, off))[k + 1:]
+                got = drive(driver, "strip", "aces-to-pixel", b"".join(strip))
+                assert got == b"refused %d %d\n" % (number, k) + bytes(n * PIXEL.size), (n, k, got[:40])
+                tried += 1
     return tried
 
 
@@ -102,18 +105,18 @@ def main():
     begun = time.time()
     driver, pick = sys.argv[1], random.Random(int(sys.argv[2]) if len(sys.argv) > 2 else 1)
     table = {s: numbers(s) for s in SETTINGS}
-    least = min(apart(table, s) for s in SETTINGS)
+    least = min(apart(table, s) for s in WITH_MATRIX)
     assert least >= 12, least  # so a triple one unit off is no other pixel's
     assert aces(LISTED, *(table[LISTED][n] for n in (100, 0, 0))) == [-238167, -283566, -289928]
     assert pixel_of(table, LISTED, [-290085, -290085, -290084]) is None
     million(driver, pick, table)
     tried = borders(driver, pick, table)
-    print(f"aces: {STRIPS * RECORDS} pixels of {len(SETTINGS)} settings in mixed strips: their ACES strips are exact in every byte, and give the pixels back")
+    print(f"aces: {STRIPS * RECORDS} pixels of {len(WITH_MATRIX)} settings in mixed strips: their ACES strips are exact in every byte, and give the pixels back")
     print(f"aces: {STRIPS * RECORDS} ACES triples one unit off in one channel are each refused by 10 (two pixels are {float(least):.1f} units apart or more)")
-    print(f"aces: strips of {', '.join(map(str, BORDERS))} ACES records give the pixels back; {tried} with a record one unit off are refused there, and their outputs stay")
+    print(f"aces: strips of {', '.join(map(str, BORDERS))} ACES records give the pixels back; {tried} with a record one unit off or of curve 2 are refused there, and their outputs stay")
     todo = [*listed(), *end_jobs(table), *jobs(pick, table, (PIXEL_TO_ACES, ACES_TO_PIXEL), 4000), *jobs(pick, table, (PIXEL_TO_SCENE, SCENE_TO_PIXEL), 1000)]
     seen, done = hold([driver, "jobs"], table, todo)
-    assert all(f"refused {n}" in seen for n in (*range(1, 8), 10, 11)), seen
+    assert all(f"refused {n}" in seen for n in (*range(1, 8), 10, 11, 12)), seen
     strips, _ = returned([driver, "jobs"], done, PIXEL_TO_ACES, ACES_TO_PIXEL)
     print(f"aces: {len(todo)} strips, short, long, damaged or random, are converted or refused as the rules say, every byte of the outputs too: {seen}; {strips} ACES strips give the pixels back ({time.time() - begun:.0f} s)")
 

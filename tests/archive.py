@@ -1,10 +1,11 @@
 #!/usr/bin/env python3
-"""archive.py PROGRAM [TEST..]: what an archive does with its masters by the command: check, inspect and verify them, several at once too, and hold them to their manifests."""
+"""archive.py PROGRAM [TEST..]: what an archive does with its masters by the command: check, inspect and verify them, several at once too, and hold them to their manifests;
+and with reels of older firmware, which have no master."""
 import hashlib, json, random
 
-from calls import DONE, FILES, GOOD, OLD, REFUSED, USAGE, begin, begun, call, each, holds, keeps, litter, until
-from reel import reel
-from rules import NUMBERS, PIXEL
+from calls import DONE, FILES, GOOD, NO_MATRIX, OLD, REFUSED, USAGE, begin, begun, call, each, holds, keeps, litter, until
+from reel import reel, run
+from rules import NUMBERS, PIXEL, WITHOUT_MATRIX
 
 ACES = NUMBERS.pack(3, 12, 800, -238167, -283566, -289928)  # of GOOD
 OTHER = PIXEL.pack(3, 12, 800, 101, 0, 0)
@@ -188,14 +189,50 @@ def inspected(folder):
     assert views["pixel"]["refusal"]["number"] == 1 and views["pixel"]["records"] == 5
     plain.write_bytes(GOOD * 3 + BAD + bytes(PIXEL.size) + GOOD)
     status, said, wrong = call("inspect", plain, "--kind", "pixel")
-    assert status == REFUSED and "refused 6: record 3 (byte 30): green code 1024 is above 1023" in said and "no setting that there is       1 records" in said, said
+    assert status == REFUSED and "refused 6: record 3 (byte 30): green code 1024 is above 1023" in said and "no setting that there is         1 records" in said, said
     status, said, wrong = call("inspect", plain)
     assert status == REFUSED and "refused as each kind" in said, said
     holds(call("inspect", "-", data=GOOD), USAGE, "--kind")
-    assert call("inspect", "-", "--kind=pixel", data=GOOD)[0] == DONE
+    status, said, wrong = call("inspect", "-", "--kind=pixel", data=GOOD)
+    assert status == DONE and said.endswith("\n    nothing is refused\n") and "matrix" not in said, said
     assert call("to-aces", pixels, folder / "master", "--manifest")[0] == DONE and seen(folder / "master")[0] == "manifest"
     assert call("inspect", pixels, aces)[1].endswith("2 files: 2 held, 0 refused, 0 could not be read\n")
 
 
+def older_firmware(folder):
+    """reels of curve 2 go to scene and come back; what needs ACES refuses them, by name and place, and says which conversion takes them"""
+    pick, pixels, scene, out = random.Random(1), folder / "old.pixels", folder / "old", folder / "out"
+    reel_of = b"".join(run(pick, s, 100) for s in WITHOUT_MATRIX)
+    pixels.write_bytes(GOOD * 5 + reel_of)
+    assert call("to-scene", pixels, scene) == (DONE, "", "") and call("from-scene", scene, out) == (DONE, "", "")
+    assert out.read_bytes() == pixels.read_bytes()
+    words = f"curve 2 has no ACES matrix{NO_MATRIX[PIXEL]}\n"
+    keeps(out, "to-aces", pixels, out, status=REFUSED, saying=f"{pixels}: refused 12: record 5 (byte 50): {words}")
+    holds(call("verify", pixels), REFUSED, f"{pixels}: refused 12: record 5 (byte 50): {words}")
+
+    # its scene records are no ACES records, and no master
+    words = f"refused 12: record 5 (byte {5 * NUMBERS.size}): curve 2 has no ACES matrix{NO_MATRIX[NUMBERS]}\n"
+    keeps(out, "to-camera", scene, out, status=REFUSED, saying=f"{scene}: refused ")
+    scene.write_bytes(ACES * 5 + scene.read_bytes()[5 * NUMBERS.size:])
+    keeps(out, "to-camera", scene, out, status=REFUSED, saying=f"{scene}: {words}")
+    holds(call("check", scene), REFUSED, f"{scene}: {words}")
+    status, said, _ = call("inspect", scene, "--kind", "aces")
+    assert status == REFUSED and words in said, said
+    status, said, _ = call("inspect", scene)
+    assert status == DONE and said.startswith(f"{scene}: scene records, as its length and settings allow\n"), said
+    assert said.endswith("\n    nothing is refused\n"), said
+
+    no_aces = "    to-aces refuses the file: it takes no record without an ACES matrix\n"
+    status, said, _ = call("inspect", pixels)
+    assert status == DONE and "\n    curve 2, width 12, EI 1600       100 records\n" in said, said
+    assert "\n    curve 3, width 12, EI 800        5 records\n    of these without an ACES matrix  2200 records\n" in said, said
+    assert said.endswith(f"\n    to-scene refuses nothing\n{no_aces}"), said
+    view = lines(call("inspect", pixels, "--json"))[0]["as"][0]
+    assert (view["records"], view["no_matrix"], view["no_setting"], view["refusal"]) == (2205, 2200, 0, None), view
+    pixels.write_bytes(reel_of + BAD)
+    status, said, _ = call("inspect", pixels)
+    assert status == REFUSED and said.endswith(f"green code 1024 is above 1023\n{no_aces}"), said
+
+
 if __name__ == "__main__":
-    each((checked, held_to_master, manifests, unreplaced, inspected))
+    each((checked, held_to_master, manifests, unreplaced, inspected, older_firmware))

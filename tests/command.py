@@ -5,7 +5,7 @@ them. Whatever fails must leave the old output as it was, and no litter that a r
 import errno, hashlib, os, pty, random, re, shutil, signal, subprocess, sys, tempfile, time
 from pathlib import Path
 
-from calls import DONE, FILES, GOOD, LOOKING, NAMES, NOBODY, OLD, PROGRAM, REFUSED, USAGE, begun, call, holds, keeps, limited, litter, until
+from calls import DONE, FILES, GOOD, LOOKING, NAMES, NOBODY, NO_MATRIX, OLD, PROGRAM, REFUSED, USAGE, begun, call, holds, keeps, limited, litter, until
 from decoded import SETTINGS, WIDTHS, codes_of
 from peak import watched
 from reel import reel
@@ -14,6 +14,9 @@ from strips import jobs
 
 CHOSEN = [s for s in SETTINGS if s[1] != 16]
 CHANNELS = "red", "green", "blue"
+REFUSALS = {  # of each conversion, in the order in which they are tried
+    PIXEL_TO_ACES: "1 3 4 5 12 11 6", ACES_TO_PIXEL: "1 3 4 5 12 10", PIXEL_TO_SCENE: "1 3 4 5 11 6", SCENE_TO_PIXEL: "1 3 4 5 7",
+}
 
 
 # ---- help and wrong usage
@@ -21,12 +24,19 @@ CHANNELS = "red", "green", "blue"
 def help_and_version():
     status, said, wrong = call("--help")
     assert status == DONE and not wrong and all(f"\n  {name} " in said for name in (*NAMES.values(), *LOOKING, "demo")), said
-    for words in "160, 200, 250, 320, 400, 500, 640, 800, 1000, 1280, 1600", "one unit is 2^-24", "10  no pixel of the setting", "no OpenEXR file":
+    for words in (
+        "160, 200, 250, 320, 400, 500, 640, 800, 1000, 1280, 1600", "one unit is 2^-24", "10  no pixel of the setting",
+        "3   the curve is not 2, 3 or 4\n", "12  the curve has no ACES matrix\n", "no OpenEXR file",
+    ):
         assert words in said, said
     for name in (*NAMES.values(), *LOOKING):
         for words in ((name, "--help"), (name, "-h"), ("help", name)):
             status, said, wrong = call(*words)
             assert status == DONE and not wrong and f"\nUsage: ropeinstant {name} [OPTIONS]" in said and "Exit status: 0 done" in said, said
+    for conversion, numbered in REFUSALS.items():
+        said = call(NAMES[conversion], "--help")[1]
+        assert re.findall(r"(?m)^    (\d+) ", said) == numbered.split(), (numbered, said)
+        assert ("refuses the whole file:\nkeep its reels apart." in said) == (conversion == PIXEL_TO_ACES), said
     status, said, wrong = call("--version")
     assert status == DONE and not wrong and re.fullmatch(r"ropeinstant \d+\.\d+\.\d+\n", said), said
     with open("/dev/full", "wb") as full:
@@ -57,11 +67,15 @@ def wrong_usage(folder):
 
 
 def demo(folder):
-    """a reel of every setting goes to ACES and back, a damaged copy is refused, and nothing stays"""
+    """a reel of the settings with a matrix goes to ACES and back, one of the others to scene and back, a damaged copy is refused, and nothing stays"""
     status, said, wrong = call("demo", env=dict(os.environ, TMPDIR=str(folder)))
     assert status == DONE and not wrong and not list(folder.iterdir()), (status, said, wrong)
-    for words in "A reel of 36 settings", "reel.pixels has 360000 bytes", "reel.aces has 1008000 bytes", "back, byte for byte", "refused 10", "as it was":
+    for words in (
+        "A reel of 36 settings", "reel.pixels has 360000 bytes", "reel.aces has 1008000 bytes", "the 22 settings without an ACES matrix",
+        "sup2.scene has 616000 bytes", "refused 10", "as it was",
+    ):
         assert words in said, said
+    assert said.count("the reel came back, byte for byte") == 2, said
 
 
 # ---- the rules
@@ -82,9 +96,10 @@ def words_of(number, k, conversion, data):
         return where + f"{name} scene number {scene} is outside -1099511627776 to 1099511627776\n"
     *widths, last = WIDTHS.get(curve, (0,))
     return where + {
-        3: f"curve {curve} is neither 3 nor 4\n",
+        3: f"curve {curve} is not 2, 3 or 4\n",
         4: f"width {width} is not one of curve {curve}'s, which are {', '.join(map(str, widths))} and {last}\n",
         5: f"EI {ei} is not one of curve {curve}'s, which ",
+        12: f"curve {curve} has no ACES matrix{NO_MATRIX[record]}\n",
         10: f"no pixel of curve {curve}, width {width}, EI {ei} has the ACES numbers {', '.join(map(str, channels))}\n",
     }[number]
 
@@ -110,7 +125,7 @@ def held_to_rules(folder, pick, table, count):
             keeps(out, *run, status=REFUSED, saying=saying, data=data if piped else None)
         cause = "done" if how == "done" else f"refused {number}"
         seen[cause] = seen.get(cause, 0) + 1
-    assert all(cause in seen for cause in ("done", *(f"refused {n}" for n in (1, 3, 4, 5, 6, 7, 10, 11)))), seen
+    assert all(cause in seen for cause in ("done", *(f"refused {n}" for n in (1, 3, 4, 5, 6, 7, 10, 11, 12)))), seen
     return dict(sorted(seen.items()))
 
 
@@ -119,14 +134,16 @@ def listed():
     scene = NUMBERS.pack(3, 12, 800, 0, 0, 0)
     aces = NUMBERS.pack(3, 12, 800, -238167, -283566, -289928)
     of_pixels = [PIXEL.pack(*record) for record in (
-        (2, 12, 800, 0, 0, 0), (4, 10, 0, 0, 0, 0), (3, 14, 800, 0, 0, 0), (3, 12, 2000, 0, 0, 0), (4, 12, 800, 0, 0, 0),
+        (7, 12, 800, 0, 0, 0), (4, 10, 0, 0, 0, 0), (3, 14, 800, 0, 0, 0), (3, 12, 2000, 0, 0, 0), (4, 12, 800, 0, 0, 0),
         (3, 10, 800, 1023, 1024, 2000), (3, 12, 800, 0, 0, 4096), (4, 12, 0, 65535, 0, 0),
         (3, 140, 800, 256, 256, 256), (4, 140, 800, 256, 256, 256), (4, 140, 0, 256, 255, 0), (4, 140, 0, 3760, 256, 3761), (4, 140, 0, 100, 5000, 256),
         (4, 140, 0, 5000, 100, 256),
+        (2, 12, 800, 0, 538, 4095), (2, 12, 800, 0, 4096, 0), (2, 10, 160, 0, 0, 1024), (2, 16, 800, 0, 0, 0), (2, 140, 0, 300, 300, 300), (2, 12, 0, 4096, 0, 0),
     )]
     tried = [(c, GOOD * 7 + bad + GOOD, b"") for c in (PIXEL_TO_ACES, PIXEL_TO_SCENE) for bad in of_pixels]
     tried += [(SCENE_TO_PIXEL, scene * 3 + NUMBERS.pack(3, 12, 800, 0, x, 0), b"") for x in (LIMIT, LIMIT + 1, -LIMIT - 1, 2 ** 63 - 1)]
     tried += [(ACES_TO_PIXEL, aces * 3 + NUMBERS.pack(3, 12, 800, -290085, -290085, -290084), b"")]
+    tried += [(c, aces * 3 + NUMBERS.pack(2, 12, 800, 53187, x, 0), b"") for c in (SCENE_TO_PIXEL, ACES_TO_PIXEL) for x in (65554, LIMIT + 1)]
     tried += [(c, b"", b"") for c in NAMES] + [(c, bytes(29), b"") for c in NAMES]
     return tried + [(PIXEL_TO_ACES, of_pixels[0] + GOOD * 40 + b"tail", b"")]
 
@@ -146,7 +163,7 @@ def any_split(folder, pick):
         assert call(*run) == (DONE, "", "")
         sums.add(hashlib.sha256(out.read_bytes()).digest())
         source.write_bytes(damaged)
-        keeps(out, *run, status=REFUSED, saying="refused 3: record 31234 (byte 312340): curve 9 is neither 3 nor 4\n")
+        keeps(out, *run, status=REFUSED, saying="refused 3: record 31234 (byte 312340): curve 9 is not 2, 3 or 4\n")
     assert len(sums) == 1
     source.write_bytes(whole)
     assert call("to-aces", source, out) == (DONE, "", "") and {hashlib.sha256(out.read_bytes()).digest()} == sums

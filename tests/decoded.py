@@ -1,7 +1,7 @@
 #!/usr/bin/env python3
 """decoded.py PROGRAM: have PROGRAM (target/bin/test_codes) decode every code of every setting, and settings and codes that must be
-refused, and hold each answer to the curves as 01 prints them, computed with 150 digits (powers) and fractions (the toe): each number
-is the nearest whole number of units. Nothing of the project's code or tables is used."""
+refused, and hold each answer to the curves as 01 and, for curve 2, source document 001 print them, computed with 150 digits (powers) and
+fractions (the toe): each number is the nearest whole number of units. Nothing of the project's code or tables is used."""
 import subprocess, sys, time
 from decimal import Decimal, getcontext
 from fractions import Fraction
@@ -11,24 +11,39 @@ getcontext().prec = 150
 UNIT = 2 ** 24
 HALF = Decimal("0.5")
 DIGITS = 130  # of a value that is compared; the computation is good to more
-CONSTANTS = {  # EI: cut b c d e f
-    160: "0.005561 0.080216 0.269036 0.381991 5.842037 0.092778",
-    200: "0.006208 0.076621 0.266007 0.382478 5.776265 0.092782",
-    250: "0.006871 0.072941 0.262978 0.382966 5.710494 0.092786",
-    320: "0.007622 0.068768 0.259627 0.383508 5.637732 0.092791",
-    400: "0.008318 0.064901 0.256598 0.383999 5.571960 0.092795",
-    500: "0.009031 0.060939 0.253569 0.384493 5.506188 0.092800",
-    640: "0.009840 0.056443 0.250219 0.385040 5.433426 0.092805",
-    800: "0.010591 0.052272 0.247190 0.385537 5.367655 0.092809",
-    1000: "0.011361 0.047996 0.244161 0.386036 5.301883 0.092814",
-    1280: "0.012235 0.043137 0.240810 0.386590 5.229121 0.092819",
-    1600: "0.013047 0.038625 0.237781 0.387093 5.163350 0.092824",
+CONSTANTS = {  # of a curve that has them by its EI: cut a b c d e f
+    2: {
+        160: "0.003907 36.439829 -0.053366 0.269035 0.391007 45.593473 -0.069772",
+        200: "0.003907 45.549786 -0.088959 0.266007 0.391007 55.709581 -0.106114",
+        250: "0.003907 56.937232 -0.133449 0.262978 0.391007 67.887153 -0.150510",
+        320: "0.003907 72.879657 -0.195737 0.259627 0.391007 84.167616 -0.210597",
+        400: "0.003907 91.099572 -0.266922 0.256598 0.391007 101.811426 -0.276349",
+        500: "0.003907 113.874465 -0.355903 0.253569 0.391007 122.608379 -0.354421",
+        640: "0.003907 145.759315 -0.480477 0.250218 0.391007 149.703304 -0.456760",
+        800: "0.003907 182.199144 -0.622848 0.247189 0.391007 178.216873 -0.564981",
+        1000: "0.003907 227.748930 -0.800811 0.244161 0.391007 210.785040 -0.689043",
+        1280: "0.003907 291.518630 -1.049959 0.240810 0.391007 251.689459 -0.845336",
+        1600: "0.003907 364.398287 -1.334700 0.237781 0.391007 293.073575 -1.003841",
+    },
+    3: {
+        160: "0.005561 5.555556 0.080216 0.269036 0.381991 5.842037 0.092778",
+        200: "0.006208 5.555556 0.076621 0.266007 0.382478 5.776265 0.092782",
+        250: "0.006871 5.555556 0.072941 0.262978 0.382966 5.710494 0.092786",
+        320: "0.007622 5.555556 0.068768 0.259627 0.383508 5.637732 0.092791",
+        400: "0.008318 5.555556 0.064901 0.256598 0.383999 5.571960 0.092795",
+        500: "0.009031 5.555556 0.060939 0.253569 0.384493 5.506188 0.092800",
+        640: "0.009840 5.555556 0.056443 0.250219 0.385040 5.433426 0.092805",
+        800: "0.010591 5.555556 0.052272 0.247190 0.385537 5.367655 0.092809",
+        1000: "0.011361 5.555556 0.047996 0.244161 0.386036 5.301883 0.092814",
+        1280: "0.012235 5.555556 0.043137 0.240810 0.386590 5.229121 0.092819",
+        1600: "0.013047 5.555556 0.038625 0.237781 0.387093 5.163350 0.092824",
+    },
 }
-WIDTHS = {3: (10, 12, 16), 4: (12, 16, 140)}  # of each curve
+WIDTHS = {2: (10, 12), 3: (10, 12, 16), 4: (12, 16, 140)}  # of each curve
 LEGAL = {140: range(256, 3761)}  # the codes of a width byte that is no count of bits
-EIS = {3: tuple(CONSTANTS), 4: (0,)}
+EIS = {2: tuple(CONSTANTS[2]), 3: tuple(CONSTANTS[3]), 4: (0,)}
 SETTINGS = [(curve, width, ei) for curve in WIDTHS for width in WIDTHS[curve] for ei in EIS[curve]]
-COUNT = 850353  # codes of all settings
+COUNT = 906673  # codes of all settings
 LISTED = {(4, 140, 0): {256: -302946, 581: -581, 1231: 3014569, 3760: 7881936077}}  # some codes of a setting and their numbers
 
 
@@ -54,9 +69,9 @@ def exact(curve, width, ei):
         base, first, step = 2, 6 - Fraction(14 * 95, 928), Fraction(14 * 1023, 928 * span)
         less, factor, border = Decimal(64), Decimal(783) / Decimal(1747520), Fraction(-1)
     else:
-        cut, b, c, d, e, f = (Fraction(x) for x in CONSTANTS[ei].split())
+        cut, a, b, c, d, e, f = (Fraction(x) for x in CONSTANTS[curve][ei].split())
         base, first, step = 10, -d / c, 1 / (c * span)
-        less, factor, border = number(b), 1 / Decimal("5.555556"), e * cut + f
+        less, factor, border = number(b), 1 / number(a), e * cut + f
     power, ratio = Decimal(base) ** number(first), Decimal(base) ** number(step)
     for n in codes:
         t = Fraction(n - first_code, span)

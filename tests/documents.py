@@ -369,19 +369,21 @@ def long_lines(texts):
 # ---- the figures
 
 def curve(module):
-    """the associated constants of a curve's type: its number, its widths, its EIs, and what stands for each EI"""
+    """the associated constants of a curve's type: its number, its widths, its EIs, and what stands for each EI, as decimals"""
     text = (ROOT / f"crates/curves/src/{module}.rt").read_text()
     limits = dict(re.findall(r"pub const (\w+): [^=]+ = ([^{};]+);", text))
-    constants = re.findall(r"pub const EI_(\d+): [^{]*\{([^}]*)\}", text)
-    constants = {ei: dict(re.findall(r"(\w+): ([\d_]+),", row)) for ei, row in constants}
-    return limits["NUMBER"], limits["WIDTHS"].strip("[]"), ", ".join(constants) or limits["EI"], constants
+    listed = re.findall(r"(\d+) => \d+,", (ROOT / "crates/curves/src/log_c.rt").read_text())
+    rows = [re.findall(r"(\w+): (?:\w+::)?(\S+),", row) for row in re.findall(r"LogC \{([^}]*)\}", text)]
+    rows = [{name: limits.get(value, value).replace("_", ".") for name, value in row} for row in rows]
+    eis = listed if rows else [limits["EI"]]
+    return limits["NUMBER"], limits["WIDTHS"].strip("[]"), ", ".join(eis), dict(zip(eis, rows))
 
 
 def figures(sources, texts):
     """the tables of FORMAT.md and COMMAND.md that hold figures: the settings, the constants, the matrices, the
-    bytes of a record and the refusals' numbers are those of the code and of the rules; and the top codes that FORMAT.md
-    gives are those of the widths in bits"""
-    curves = [curve("log_c3"), curve("log_c4")]
+    bytes of a record and the refusals' numbers are those of the code and of the rules; the top codes that FORMAT.md
+    gives are those of the widths in bits; and README.md has the count of settings"""
+    curves = [curve("log_c2"), curve("log_c3"), curve("log_c4")]
     record = (ROOT / "crates/rules/specs/Record.antt").read_text()
     code, number = (4 + 3 * int(re.search(rf"(?m)^{name} = (\d+)", record)[1]) for name in ("codeBytes", "numberBytes"))
     refused = re.findall(r"(?m)^numberOf \w+ = (\d+)", (ROOT / "crates/rules/specs/Refusal.antt").read_text())
@@ -390,8 +392,9 @@ def figures(sources, texts):
     wanted = {
         ("Curve", "Widths", "EI"): [[n, widths, eis] for n, widths, eis, _ in curves],
         ("Kind", "Bytes"): [["pixel", str(code)], ["scene", str(number)], ["ACES", str(number)]],
+        ("EI", *"a b c e f".split()): [[ei] + [row[k] for k in "a b c e f".split()] for ei, row in curves[0][3].items()],
         ("EI", *"cut b c d e f".split()): [
-            [ei] + [f"{row[k][:1]}.{row[k][2:]}" for k in "cut b c d e f".split()] for ei, row in curves[0][3].items()],
+            [ei] + [row[k] for k in "cut b c d e f".split()] for ei, row in curves[1][3].items()],
         ("from red", "from green", "from blue"): entries,
         ("No.",): [[n] for n in refused],
     }
@@ -399,6 +402,12 @@ def figures(sources, texts):
     *tops, last = filter(int, (str(top_code(width)) for width in widths))
     if f"{', '.join(tops)} or {last}" not in " ".join(texts[FORMAT].split()):
         yield f"{FORMAT}: the top codes of the widths in bits are {', '.join(tops)} or {last}"
+    for name, value in {(k, row[k]) for row in curves[0][3].values() for k in ("cut", "d")}:
+        if value not in texts[FORMAT]:
+            yield f"{FORMAT}: {name} of curve 2 is {value}"
+    count = sum(len(some.split(", ")) * len(eis.split(", ")) for _, some, eis, _ in curves)
+    if f"all {count} settings" not in " ".join(texts[README].split()):
+        yield f"{README}: there are {count} settings"
     for document in FORMAT, COMMAND:
         for columns, right in wanted.items():
             found = [[row[c] for c in columns] for _, row in rows(document, texts[document]) if {*columns} <= {*row}]
@@ -487,9 +496,10 @@ def damaged(sources, texts):
     yield "a link that leads nowhere", swap("](docs/", "](docs/no/", README), "leads nowhere"
     yield "a heading that is not there", swap("\n## ", "\n## No ", DECISIONS), "leads nowhere"
     yield "a line that is too long", swap("\n\n", "\n\n" + "long " * COLUMNS, README), "columns"
-    for figure in "| 10 | a code", "10, 12, 16 |", "| 0.005561 |", "| 680205 |", "| 9 | a float":
+    for figure in "| 10 | a code", "10, 12, 16 |", "10, 12 |", "| 0.005561 |", "| -0.069772 |", "0.391007", "| 680205 |", "| 9 | a float":
         yield f"another figure in {figure}", swap(figure, figure.replace("0", "7").replace("9", "8"), FORMAT), FORMAT
     yield "another top code", swap("1023, ", "1024, ", FORMAT), "the top codes"
+    yield "another count of settings", swap(" settings", " curves", README), "settings"
     yield "a name of another file", swap(f"{named} in {place}", f"`main` in {place}", DECISIONS), "`main` is not in"
     yield "an open function with a `requires`", swap(open_one[0], f"{asks.crate} `{asks.name}`"), asks.name
     yield "an open function not listed", swap(f"| {open_one[0]} |", "| |"), open_one[2]

@@ -6,6 +6,7 @@
  *   driver records CONVERSION FILE      each record as a strip of its own: a line for each answer
  *   driver time CONVERSION FILE         nanoseconds a record, the least of several conversions of the strip
  *   driver tops                         the top code of each width byte from 0 to 255, a line each
+ *   driver words                        the words of each refusal's number from 0 to 255, a line each
  *
  * The answer's line is `done` and the count of records, or `refused`, the refusal's number and the record's index. */
 #include <inttypes.h>
@@ -169,10 +170,20 @@ static void tops(void)
         printf("%" PRIu16 "\n", ropeinstant_top_code(width));
 }
 
+static void words(void)
+{
+    for (int number = 0; number <= UINT8_MAX; number++)
+        puts(ropeinstant_words(number));
+}
+
 int main(int argc, char **argv)
 {
     if (argc == 2 && strcmp(argv[1], "tops") == 0) {
         tops();
+        return 0;
+    }
+    if (argc == 2 && strcmp(argv[1], "words") == 0) {
+        words();
         return 0;
     }
     if (argc == 2 && strcmp(argv[1], "jobs") == 0) {
@@ -180,7 +191,7 @@ int main(int argc, char **argv)
         return 0;
     }
     if (argc != 4)
-        fail("usage: driver jobs | tops | strip CONVERSION FILE | records CONVERSION FILE | time CONVERSION FILE");
+        fail("usage: driver jobs | tops | words | strip CONVERSION FILE | records CONVERSION FILE | time CONVERSION FILE");
     const struct conversion *c = named(argv[2]);
     struct bytes in = contents(argv[3]);
     if (strcmp(argv[1], "strip") == 0)

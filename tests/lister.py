@@ -3,9 +3,9 @@
 and more than its buffer holds, piped in odd pieces; hold every byte that it prints to the rules of 01 (rules.py)."""
 import random, subprocess, sys, threading, time
 
-from rules import PIXEL, PIXEL_TO_ACES, SETTINGS, numbers, one
-from decoded import codes_of, setting_refusal
-from strips import INVALID
+from rules import PIXEL, PIXEL_TO_ACES, SETTINGS, WITH_MATRIX, numbers, one, setting_check
+from decoded import codes_of
+from strips import INVALID, SENSOR
 
 EXAMPLE = bytes.fromhex("030C2003640000000000040A0000000000000000")
 LISTED = b"0 ok -238167 -283566 -289928\n1 refused 4\n"
@@ -18,7 +18,7 @@ def listed(table, data):
     whole = len(data) // PIXEL.size * PIXEL.size
     lines = []
     for k, (*s, r, g, b) in enumerate(PIXEL.iter_unpack(data[:whole])):
-        made = setting_refusal(*s) or one(table, PIXEL_TO_ACES, tuple(s), (r, g, b))
+        made = setting_check(PIXEL_TO_ACES, s) or one(table, PIXEL_TO_ACES, tuple(s), (r, g, b))
         lines.append(f"{k} refused {made}\n" if isinstance(made, int) else "%d ok %d %d %d\n" % (k, *made))
     if whole < len(data):
         lines.append(f"tail {len(data) - whole}\n")
@@ -39,10 +39,10 @@ def mixed(pick, count):
     """records in runs of one setting; some of a setting that is refused, some of random bytes"""
     data = []
     while len(data) < count:
-        s = pick.choice(SETTINGS)
+        s = pick.choice(WITH_MATRIX)
         data += [pixel(pick, s) for _ in range(pick.choice((1, 2, 30, 100)))]
         if pick.getrandbits(1):
-            data.append(PIXEL.pack(*pick.choice(INVALID), *(pick.getrandbits(16) for _ in range(3))))
+            data.append(PIXEL.pack(*pick.choice(INVALID + SENSOR), *(pick.getrandbits(16) for _ in range(3))))
         if pick.getrandbits(2) == 0:
             data.append(pick.randbytes(PIXEL.size))
     return b"".join(data[:count])
@@ -87,7 +87,7 @@ def inputs(pick):
     for s in SETTINGS:
         first, top = codes_of(s)[0], codes_of(s)[-1]
         yield PIXEL.pack(*s, first, first, first) + PIXEL.pack(*s, top, top, top) + b"".join(pixel(pick, s) for _ in range(50))
-    yield b"".join(PIXEL.pack(*s, 0, 0, 0) for s in INVALID)
+    yield b"".join(PIXEL.pack(*s, code, 0, 0) for s in INVALID + SENSOR for code in (0, 4096))
     for at in range(3):
         yield PIXEL.pack(3, 10, 800, *(1024 if i == at else 1023 for i in range(3)))
         yield PIXEL.pack(4, 140, 0, *(255 if i == at else 256 for i in range(3))) + PIXEL.pack(4, 140, 0, *(3761 if i == at else 3760 for i in range(3)))
@@ -110,7 +110,7 @@ def main():
         count, records = count + 1, records + len(data) // PIXEL.size
     long = mixed(pick, RECORDS) + b"\x03\x0c\x20"
     want = listed(table, long)
-    assert all(b" refused %d\n" % n in want for n in (3, 4, 5, 6, 11)) and want.endswith(b"tail 3\n")
+    assert all(b" refused %d\n" % n in want for n in (3, 4, 5, 6, 11, 12)) and want.endswith(b"tail 3\n")
     same(run(program, long), want)
     for steps in (1, 3, 7, 999, 4097), (65535, 65536, 65537), (131071,):
         part = long[:sum(steps) * 3]

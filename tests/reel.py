@@ -1,11 +1,11 @@
 #!/usr/bin/env python3
-"""reel.py BYTES FILE [SEED]: write a reel of random pixel records, as many as BYTES hold, all accepted, in runs of one setting; every setting occurs in
-a reel of 36 runs or more."""
+"""reel.py BYTES FILE [SEED]: write a reel of random pixel records, as many as BYTES hold, all of which go to ACES, in runs of one setting; every setting
+with an ACES matrix occurs in a reel of 36 runs or more."""
 import random, sys
 from struct import calcsize
 
-from decoded import SETTINGS, codes_of
-from rules import PIXEL
+from decoded import codes_of
+from rules import PIXEL, WITH_MATRIX
 
 RUN = 20000  # records
 
@@ -34,7 +34,7 @@ def run(pick, setting, count):
 
 def reel(pick, records):
     """the runs of a reel"""
-    settings = list(SETTINGS)
+    settings = list(WITH_MATRIX)
     pick.shuffle(settings)
     for k, begin in enumerate(range(0, records, RUN)):
         yield run(pick, settings[k % len(settings)], min(RUN, records - begin))

@@ -1,4 +1,4 @@
-"""The rules of 01 for strips, read anew from the printed curves and matrices with whole numbers and fractions. Nothing of the project's
+"""The rules of 01 and 02 for strips, read anew from the printed curves and matrices with whole numbers and fractions. Nothing of the project's
 code or tables is used. The tests hold the programs to what stands here."""
 from bisect import bisect_left, bisect_right
 from fractions import Fraction
@@ -12,7 +12,8 @@ PIXEL_TO_SCENE, SCENE_TO_PIXEL, PIXEL_TO_ACES, ACES_TO_PIXEL = range(4)
 PIXEL, NUMBERS = Struct("<BBH3H"), Struct("<BBH3q")  # a record: curve, width, EI, and three codes or numbers
 READ = (PIXEL, NUMBERS, PIXEL, NUMBERS)  # by each conversion
 WRITTEN = (NUMBERS, PIXEL, NUMBERS, PIXEL)
-MATRICES = {  # curve: scale, rows
+TO_OR_FROM_ACES = PIXEL_TO_ACES, ACES_TO_PIXEL
+MATRICES = {  # curve: scale, rows; 02, item 3: none is published for curve 2
     4: (10 ** 18, (
         (750957362824734131, 144422786709757084, 104619850465508965),
         (821837079380207, 1007397584885003194, -8219421964383583),
@@ -24,6 +25,8 @@ MATRICES = {  # curve: scale, rows
         (2057, -62563, 1060506),
     )),
 }
+WITH_MATRIX = [s for s in SETTINGS if s[0] in MATRICES]
+WITHOUT_MATRIX = [s for s in SETTINGS if s[0] not in MATRICES]
 
 
 def numbers(s):
@@ -80,13 +83,19 @@ def apart(table, s):
     return Fraction(step * over, max(sum(abs(m) for m in row) for row in rows)) - 1
 
 
+def setting_check(conversion, s):
+    """the refusal of a setting in a conversion, or 0; 02, item 3: to or from ACES 12 comes after 5"""
+    number = setting_refusal(*s)
+    return number or (12 if conversion in TO_OR_FROM_ACES and s[0] not in MATRICES else 0)
+
+
 def first_refusal(s, codes):
     """the refusal of a setting and its codes, red, green and blue in turn, or 0"""
     return next(filter(None, (refusal(*s, n) for n in codes)), 0)
 
 
 def one(table, conversion, s, channels):
-    """what the channels of a record become, or the number of its refusal; the setting is valid"""
+    """what the channels of a record become, or the number of its refusal; the setting has passed"""
     if conversion in (PIXEL_TO_SCENE, PIXEL_TO_ACES):
         number = first_refusal(s, channels)
         if number:
@@ -111,7 +120,7 @@ def convert(table, conversion, data, output):
     written = []
     for k, (curve, width, ei, *channels) in enumerate(READ[conversion].iter_unpack(data)):
         s = curve, width, ei
-        made = setting_refusal(*s) or one(table, conversion, s, channels)
+        made = setting_check(conversion, s) or one(table, conversion, s, channels)
         if isinstance(made, int):
             return f"refused {made} {k}", output
         written.append(WRITTEN[conversion].pack(*s, *made))

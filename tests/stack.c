@@ -1,5 +1,6 @@
-/* How much stack a call takes: each conversion runs on a stack that was painted before, over strips of the lengths where another way through
- * the library begins. Prints the most of each; fails where one takes more than the header promises.
+/* How much stack a call takes: each conversion runs on a stack that was painted before, over strips of every curve and width and of the
+ * lengths where another way through the library begins. Prints the most of each; fails where one takes more than the header promises, or
+ * is refused.
  *
  *   gcc -Iinclude tests/stack.c target/staticlib/libropeinstant.a -lpthread -o target/stack && target/stack */
 #define _GNU_SOURCE
@@ -11,6 +12,18 @@
 #include "ropeinstant.h"
 
 enum { PROMISED = ROPEINSTANT_STACK, WHOLE = 1 << 20, MOST = 5000, PAINT = 0xa5 };
+
+/* A pixel of each curve and width, those with an ACES matrix first, laid out as a record is. */
+struct pixel {
+    uint8_t curve, width;
+    uint16_t ei, codes[3];
+};
+static const struct pixel PIXELS[] = {
+    {3, 10, 800, {0, 500, 1023}}, {3, 12, 800, {0, 2000, 4095}}, {3, 16, 800, {0, 32000, 65535}},
+    {4, 12, 0, {0, 2000, 4095}},  {4, 16, 0, {0, 32000, 65535}}, {4, 140, 0, {256, 2000, 3760}},
+    {2, 10, 800, {0, 500, 1023}}, {2, 12, 800, {0, 2000, 4095}},
+};
+enum { ALL = sizeof PIXELS / sizeof *PIXELS, WITH_MATRIX = 6 };
 
 typedef uint32_t function(const uint8_t *, size_t, uint8_t *, size_t, uint64_t *);
 
@@ -26,8 +39,10 @@ static void float_pixels(void)
 {
     double floats[3];
     uint16_t codes[3];
-    if (ropeinstant_codes_to_floats(3, 16, 800, 100, 40000, 65535, floats) == 0)
-        ropeinstant_floats_to_codes(3, 16, 800, floats[0], floats[1], floats[2], codes);
+    for (const struct pixel *p = PIXELS; p < PIXELS + ALL; p++)
+        if (ropeinstant_codes_to_floats(p->curve, p->width, p->ei, p->codes[0], p->codes[1], p->codes[2], floats) != 0 ||
+            ropeinstant_floats_to_codes(p->curve, p->width, p->ei, floats[0], floats[1], floats[2], codes) != 0)
+            exit(1);
 }
 
 static void top_codes(void)
@@ -40,8 +55,8 @@ static void *run(void *of)
 {
     struct job *job = of;
     uint64_t at;
-    if (job->call)
-        job->call(in, job->in_len, out, job->out_len, &at);
+    if (job->call && job->call(in, job->in_len, out, job->out_len, &at) != 0)
+        exit(1);
     if (job->other)
         job->other();
     return NULL;
@@ -69,17 +84,16 @@ static size_t touched(struct job job)
 
 int main(void)
 {
-    const uint8_t pixel[10] = {3, 12, 0x20, 0x03, 100, 0, 0, 0, 0, 0};
     const struct {
         const char *name;
         function *call;
-        size_t from, to;
+        size_t from, pixels;
         function *before;
     } conversions[] = {
-        {"pixel to scene", ropeinstant_pixel_to_scene, 10, 28, NULL},
-        {"scene to pixel", ropeinstant_scene_to_pixel, 28, 10, ropeinstant_pixel_to_scene},
-        {"pixel to ACES", ropeinstant_pixel_to_aces, 10, 28, NULL},
-        {"ACES to pixel", ropeinstant_aces_to_pixel, 28, 10, ropeinstant_pixel_to_aces},
+        {"pixel to scene", ropeinstant_pixel_to_scene, 10, ALL, NULL},
+        {"scene to pixel", ropeinstant_scene_to_pixel, 28, ALL, ropeinstant_pixel_to_scene},
+        {"pixel to ACES", ropeinstant_pixel_to_aces, 10, WITH_MATRIX, NULL},
+        {"ACES to pixel", ropeinstant_aces_to_pixel, 28, WITH_MATRIX, ropeinstant_pixel_to_aces},
     };
     const struct {
         const char *name;
@@ -89,11 +103,11 @@ int main(void)
     size_t none = touched((struct job){NULL, 0, 0, NULL}), greatest = 0;
     uint8_t *pixels = malloc(MOST * 10);
     in = malloc(MOST * 28), out = malloc(MOST * 28);
-    for (size_t k = 0; k < MOST; k++)
-        memcpy(pixels + 10 * k, pixel, 10);
     for (size_t c = 0; c < sizeof conversions / sizeof *conversions; c++) {
         size_t most = 0;
         uint64_t at;
+        for (size_t k = 0; k < MOST; k++)
+            memcpy(pixels + 10 * k, &PIXELS[k % conversions[c].pixels], 10);
         memcpy(in, pixels, MOST * 10);
         if (conversions[c].before && conversions[c].before(pixels, MOST * 10, in, MOST * 28, &at) != 0)
             return 1;

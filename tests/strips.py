@@ -4,10 +4,15 @@ of each output strip to the rules of 01 (rules.py)."""
 import random, subprocess, sys, time
 
 from decoded import codes_of
-from rules import ACES_TO_PIXEL, LIMIT, PIXEL, PIXEL_TO_ACES, PIXEL_TO_SCENE, READ, SCENE_TO_PIXEL, SETTINGS, WRITTEN, aces, convert, numbers
+from rules import ACES_TO_PIXEL, LIMIT, PIXEL, PIXEL_TO_ACES, PIXEL_TO_SCENE, READ, SCENE_TO_PIXEL, SETTINGS, WRITTEN, aces, convert, numbers, setting_check
 
 CHOSEN = [s for s in SETTINGS if s[1] != 16] + [(3, 16, 160), (3, 16, 800), (3, 16, 1600), (4, 16, 0)]
-INVALID = [(2, 12, 800), (5, 12, 0), (0, 0, 0), (3, 14, 800), (4, 10, 0), (3, 12, 2000), (3, 16, 0), (4, 12, 800), (4, 16, 65535), (3, 140, 800), (4, 140, 800)]
+INVALID = [
+    (1, 12, 800), (5, 12, 0), (0, 0, 0), (3, 14, 800), (4, 10, 0), (3, 12, 2000), (3, 16, 0), (4, 12, 800), (4, 16, 65535), (3, 140, 800), (4, 140, 800),
+    (2, 16, 800), (2, 140, 0), (2, 12, 0), (2, 10, 2000),
+]
+SENSOR = [(2, 10, 160), (2, 12, 800)]  # valid, except in conversions to and from ACES
+PASSES = 3, 12, 800  # in every conversion
 ENDS = (-2 ** 63, -2 ** 63 + 1, 2 ** 63 - 1, -2 ** 40 - 1, 2 ** 40 + 1, 2 ** 34, -2 ** 34, 0)
 
 
@@ -45,9 +50,9 @@ def channels(pick, ys, s, conversion):
 
 def strip(pick, table, conversion):
     """a strip of records in runs of one setting"""
-    data = b""
+    data, settings = b"", [s for s in table if not setting_check(conversion, s)]
     for _ in range(pick.randrange(4)):
-        s = pick.choice(list(table))
+        s = pick.choice(settings)
         for _ in range(pick.choice((1, 1, 2, 5, 40))):
             data += READ[conversion].pack(*s, *channels(pick, table[s], s, conversion))
     return data
@@ -76,7 +81,7 @@ def damage(pick, conversion, data):
             if how == 2:
                 data[k + pick.randrange(4)] = pick.randrange(256)
             elif how == 3:
-                data[k:k + 4] = PIXEL.pack(*pick.choice(INVALID), 0, 0, 0)[:4]
+                data[k:k + 4] = PIXEL.pack(*pick.choice(INVALID + SENSOR), 0, 0, 0)[:4]
             else:
                 high = (size - 4) // 3 * pick.randrange(1, 4) + 3  # the highest byte of a channel
                 data[k + high] = pick.choice((0, pick.randrange(256)))
@@ -106,7 +111,8 @@ def end_jobs(table):
     for s in table:
         for codes in ends(s):
             for c in PIXEL_TO_SCENE, PIXEL_TO_ACES:
-                yield c, PIXEL.pack(*s, *next(ends(s))) + PIXEL.pack(*s, *codes), bytes(2 * WRITTEN[c].size)
+                before = PASSES if setting_check(c, s) else s
+                yield c, PIXEL.pack(*before, *next(ends(before))) + PIXEL.pack(*s, *codes), bytes(2 * WRITTEN[c].size)
 
 
 def run(command, todo):
@@ -152,7 +158,7 @@ def main():
     table = {s: numbers(s) for s in CHOSEN}
     todo = [(0, bytes(11), bytes(100)), (0, b"", b""), (1, b"", b""), *end_jobs(table), *jobs(pick, table, range(4), 4000)]
     seen, done = hold([sys.argv[1]], table, todo)
-    assert all(f"refused {n}" in seen for n in (*range(1, 8), 10, 11)), seen
+    assert all(f"refused {n}" in seen for n in (*range(1, 8), 10, 11, 12)), seen
     print(f"strips: {len(todo)} strips are converted or refused as the rules say, every byte of the outputs too: {seen}")
     for name, there, back in ("scene", PIXEL_TO_SCENE, SCENE_TO_PIXEL), ("ACES", PIXEL_TO_ACES, ACES_TO_PIXEL):
         strips, records = returned([sys.argv[1]], done, there, back)

@@ -1,11 +1,11 @@
 #!/usr/bin/env python3
 """way_back.py PROGRAM [SEED]: have PROGRAM (target/bin/test_way_back) take ACES records back one by one, each by a call of its own: those of
-random pixels of all settings, the same with a channel some units off, random numbers of every size, and settings that are not valid;
-hold each answer to the rules of 01 (rules.py), which search the pixels for one that gives the numbers."""
+random pixels of all settings with a matrix, the same with a channel some units off, random numbers of every size, settings without a matrix, and
+settings that are not valid; hold each answer to the rules of 01 (rules.py), which search the pixels for one that gives the numbers."""
 import random, subprocess, sys, time
 
-from decoded import codes_of, setting_refusal
-from rules import NUMBERS, SETTINGS, aces, numbers, pixel_of
+from decoded import codes_of
+from rules import ACES_TO_PIXEL, NUMBERS, WITH_MATRIX, WITHOUT_MATRIX, aces, numbers, pixel_of, setting_check
 
 EACH = 3000  # pixels of each setting
 OFF = 1, 2, 3, 5, 8, 12, 16, 40, 300, 2 ** 33, 2 ** 38, 2 ** 40  # units that a channel is moved
@@ -15,7 +15,7 @@ SETTING_BYTES = [(c, w, e) for c in (0, 2, 3, 4, 5, 255) for w in (0, 10, 12, 16
 
 def records(pick, table):
     """records, some of which a pixel gives"""
-    for s in SETTINGS:
+    for s in WITH_MATRIX:
         ys, codes = table[s], codes_of(s)
         ends = codes[0], codes[1], codes[-2], codes[-1]
         for _ in range(EACH):
@@ -28,6 +28,10 @@ def records(pick, table):
         for x in ENDS:
             yield s, [x, x, x]
             yield s, [x, 0, -1 - x]
+    for s in WITHOUT_MATRIX:
+        for x in ENDS:
+            yield s, [x, x, x]
+            yield s, [pick.randint(-2 ** 34, 2 ** 34) for _ in range(3)]
     for s in SETTING_BYTES:
         yield s, [pick.randint(-2 ** 34, 2 ** 34) for _ in range(3)]
 
@@ -35,20 +39,20 @@ def records(pick, table):
 def main():
     begun = time.time()
     pick = random.Random(int(sys.argv[2]) if len(sys.argv) > 2 else 1)
-    table = {s: numbers(s) for s in SETTINGS}
+    table = {s: numbers(s) for s in WITH_MATRIX}
     asked = list(records(pick, table))
     data = b"".join(NUMBERS.pack(*s, *triple) for s, triple in asked)
     out = subprocess.run([sys.argv[1]], input=data, stdout=subprocess.PIPE, check=True).stdout.decode().split("\n")
     assert len(out) == len(asked) + 1 and not out.pop(), len(out)
     seen = {}
     for line, (s, triple) in zip(out, asked):
-        number = setting_refusal(*s)
+        number = setting_check(ACES_TO_PIXEL, s)
         found = None if number else pixel_of(table, s, triple)
         want = " ".join(map(str, found)) if found else f"refused {number or 10}"
         assert line == want, (s, triple, line, want)
         kind = "pixels" if found else want
         seen[kind] = seen.get(kind, 0) + 1
-    assert set(seen) == {"pixels", "refused 3", "refused 4", "refused 5", "refused 10"}, seen
+    assert set(seen) == {"pixels", "refused 3", "refused 4", "refused 5", "refused 12", "refused 10"}, seen
     print(f"way_back: {len(asked)} records, each by a call of its own, come back or are refused as the rules say: {seen} ({time.time() - begun:.0f} s)")
 
 

@@ -80,7 +80,7 @@ fn log_c4() -> Curve {
 }
 
 impl Plain {
-    /// None for a setting that is refused.
+    /// None for a setting that this benchmark does not try. (Curve 2 has no ACES matrix.)
     fn new(setting: [u8; 4]) -> Option<Plain> {
         let ei = u16::from_le_bytes([setting[2], setting[3]]);
         let curve = match (setting[0], setting[1], ei) {

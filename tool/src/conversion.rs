@@ -18,7 +18,7 @@ pub const TO_ACES: Conversion = Conversion {
     from: &PIXEL,
     to: &ACES,
     convert: pixel_to_aces,
-    refusals: &[1, 3, 4, 5, 11, 6],
+    refusals: &[1, 3, 4, 5, 12, 11, 6],
 };
 
 pub const TO_CAMERA: Conversion = Conversion {
@@ -27,7 +27,7 @@ pub const TO_CAMERA: Conversion = Conversion {
     from: &ACES,
     to: &PIXEL,
     convert: aces_to_pixel,
-    refusals: &[1, 3, 4, 5, 10],
+    refusals: &[1, 3, 4, 5, 12, 10],
 };
 
 pub const TO_SCENE: Conversion = Conversion {
@@ -50,10 +50,10 @@ pub const FROM_SCENE: Conversion = Conversion {
 
 pub const CONVERSIONS: [&Conversion; 4] = [&TO_ACES, &TO_CAMERA, &TO_SCENE, &FROM_SCENE];
 
-/// The conversion that judges records of a kind.
+/// The conversion that judges records of a kind. Pixels need no matrix to be sound.
 pub fn judging(kind: &Kind) -> &'static Conversion {
     match kind.name {
-        "pixel" => &TO_ACES,
+        "pixel" => &TO_SCENE,
         "scene" => &FROM_SCENE,
         _ => &TO_CAMERA,
     }

@@ -1,5 +1,6 @@
-//! `demo`: a small reel of every setting goes to ACES and back, in a folder of its own that is gone afterwards.
-use crate::conversion::{Conversion, TO_ACES, TO_CAMERA};
+//! `demo`: a small reel of every setting with an ACES matrix goes to ACES and back, and one of the others to scene and back, in a folder of
+//! its own that is gone afterwards.
+use crate::conversion::{Conversion, FROM_SCENE, TO_ACES, TO_CAMERA, TO_SCENE};
 use crate::convert::convert;
 use crate::failure::{Cause, Failure};
 use crate::kinds::{ACES, CHANNELS, PIXEL};
@@ -15,14 +16,12 @@ const OF_EACH: usize = 1000; // records of a setting
 pub fn demo(session: &Session) -> Result<(), Failure> {
     let folder = Folder::new().map_err(|error| Cause::files("cannot make a folder for the demo", &error).of("ropeinstant"))?;
     let [reel, aces, back, damaged] = ["reel.pixels", "reel.aces", "back.pixels", "damaged.aces"].map(|name| folder.0.join(name));
-    write(&reel, &reel_of_all())?;
-    say(&format!("A reel of {} settings, {} pixels of each:\n", all().count(), OF_EACH))?;
-    say_size(&reel)?;
-    shown(session, &TO_ACES, &reel, &aces)?;
-    say_size(&aces)?;
-    shown(session, &TO_CAMERA, &aces, &back)?;
-    say_size(&back)?;
-    held(read(&reel)? == read(&back)?, "the reel came back, byte for byte", "the reel did not come back")?;
+    let sup2 = ["sup2.pixels", "sup2.scene", "sup2-back.pixels"].map(|name| folder.0.join(name));
+    let (with, without): (Vec<Setting>, Vec<Setting>) = all().partition(Setting::has_matrix);
+    say(&format!("A reel of {} settings, {} pixels of each:\n", with.len(), OF_EACH))?;
+    there_and_back(session, &with, [&TO_ACES, &TO_CAMERA], [&reel, &aces, &back])?;
+    say(&format!("A reel of the {} settings without an ACES matrix, {} pixels of each:\n", without.len(), OF_EACH))?;
+    there_and_back(session, &without, [&TO_SCENE, &FROM_SCENE], [&sup2[0], &sup2[1], &sup2[2]])?;
 
     let mut bytes = read(&aces)?;
     let record = bytes.len() / ACES.size() / 2;
@@ -35,6 +34,18 @@ pub fn demo(session: &Session) -> Result<(), Failure> {
         Ok(()) => held(false, "", "the damaged copy was converted")?,
     }
     held(read(&reel)? == read(&back)?, "back.pixels is as it was", "back.pixels is not as it was")
+}
+
+/// A reel of some settings is converted, and returned.
+fn there_and_back(session: &Session, of: &[Setting], [there, back]: [&Conversion; 2], files: [&Path; 3]) -> Result<(), Failure> {
+    let [reel, made, returned] = files;
+    write(reel, &reel_of(of))?;
+    say_size(reel)?;
+    shown(session, there, reel, made)?;
+    say_size(made)?;
+    shown(session, back, made, returned)?;
+    say_size(returned)?;
+    held(read(reel)? == read(returned)?, "the reel came back, byte for byte", "the reel did not come back")
 }
 
 /// One conversion, with the line that a user would write for it.
@@ -67,11 +78,11 @@ fn write(path: &Path, bytes: &[u8]) -> Result<(), Failure> {
     fs::write(path, bytes).map_err(|error| Failure::files(path, "cannot write", &error))
 }
 
-/// Records of every setting with codes spread over all of its codes, the lowest and the highest among them.
-fn reel_of_all() -> Vec<u8> {
-    let mut reel = Vec::with_capacity(all().count() * OF_EACH * PIXEL.size());
+/// Records of each setting with codes spread over all of its codes, the lowest and the highest among them.
+fn reel_of(settings: &[Setting]) -> Vec<u8> {
+    let mut reel = Vec::with_capacity(settings.len() * OF_EACH * PIXEL.size());
     let mut state = 1;
-    all().for_each(|setting| (0..OF_EACH).for_each(|k| pixel(&setting, k, &mut state, &mut reel)));
+    settings.iter().for_each(|setting| (0..OF_EACH).for_each(|k| pixel(setting, k, &mut state, &mut reel)));
     reel
 }
 

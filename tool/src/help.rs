@@ -1,16 +1,16 @@
 //! The texts of the help that are not the options: what a file is, the tables, and what each subcommand promises. No line is longer than 80.
 use crate::conversion::Conversion;
-use crate::kinds::KINDS;
+use crate::kinds::{ACES, KINDS};
 use crate::refusals::REFUSALS;
-use crate::settings::{Width, CURVES};
+use crate::settings::{Curve, Width, CURVES};
 
 pub const ABOUT: &str = "\
-Converts the codes of ARRI cameras (LogC4, LogC3) to scene numbers and ACES
-numbers, and back, exactly.";
+Converts the codes of ARRI cameras (LogC4, LogC3, LogC of SUP 2.x) to scene
+numbers and ACES numbers, and back, exactly.";
 pub const VERIFY: &str = "Looks whether pixels come back from ACES, or from a master";
 pub const CHECK: &str = "Looks whether every record of a master comes from a pixel";
 pub const INSPECT: &str = "Shows what a file holds";
-pub const DEMO: &str = "Takes a reel of every setting to ACES and back; needs no input";
+pub const DEMO: &str = "Takes reels of every setting to ACES or scene and back; no input";
 pub const PAIR: &str = "Hold the first file, pixels, to the second, its master";
 
 const STATUS: &str = "Exit status: 0 done, 1 refused, 2 wrong usage, 3 reading or writing failed.\n";
@@ -63,9 +63,23 @@ fn curves() -> String {
         text += &format!("{:<6} {:<12} {}\n", curve.byte, widths.join(", "), eis.join(", "));
     }
     CURVES.iter().for_each(|curve| text += &format!("Curve {} is {}.\n", curve.byte, curve.name));
+    without_matrix().for_each(|curve| text += &no_matrix(curve));
     text += "A width is a count of bits, at full range.\n";
     CURVES.iter().flat_map(|curve| curve.widths).filter(|width| width.lowest > 0).for_each(|width| text += &legal(width));
     text + "Any other EI is refused, those above 1600 among them.\n"
+}
+
+fn without_matrix() -> impl Iterator<Item = &'static Curve> {
+    CURVES.iter().filter(|curve| !curve.matrix)
+}
+
+fn no_matrix(curve: &Curve) -> String {
+    format!("Curve {} has no ACES matrix. It has scene numbers only, in units of 2^-24 of\nsensor value.\n", curve.byte)
+}
+
+/// What a conversion to ACES asks of reels of a curve without an ACES matrix.
+fn kept_apart(curve: &Curve) -> String {
+    format!("One record of curve {}, which has no ACES matrix, refuses the whole file:\nkeep its reels apart.\n", curve.byte)
 }
 
 fn legal(width: &Width) -> String {
@@ -89,6 +103,9 @@ pub fn of_conversion(conversion: &Conversion) -> String {
     );
     for refusal in REFUSALS.iter().filter(|refusal| conversion.refusals.contains(&refusal.number)) {
         text += &format!("    {:<3} {}\n", refusal.number, refusal.when);
+    }
+    if conversion.to == &ACES {
+        without_matrix().for_each(|curve| text += &kept_apart(curve));
     }
     format!("{}\n{}\n{}\n{}\n{}\n{}", text, INPUT, OUTPUT, REPLACED, MANIFEST, STATUS)
 }
@@ -121,7 +138,9 @@ const INSPECT_MORE: &str = "\
 The kind is the one of --kind, of the manifest or of the name's ending (.pixels,
 .scene, .aces), else each that the length and the settings of the records allow;
 scene and ACES records look alike. It shows the settings with their counts, the
-range of each channel, and the first refusal: status 1 if there is one.
+range of each channel, and the first refusal: status 1 if there is one. Pixels
+are judged as to-scene judges them. Where some of them have no ACES matrix it
+says how many, and that to-aces refuses the file.
 ";
 
 const INPUT: &str = "\
@@ -181,9 +200,13 @@ mod tests {
     #[test]
     fn the_tables_are_there() {
         let text = help("");
-        assert!(text.contains("3      10, 12, 16   160, 200, 250, 320, 400, 500, 640, 800, 1000, 1280, 1600"));
+        for row in ["2      10, 12       160,", "3      10, 12, 16   160,"] {
+            assert!(text.contains(&format!("{} 200, 250, 320, 400, 500, 640, 800, 1000, 1280, 1600\n", row)));
+        }
+        assert!(text.contains("Curve 2 is LogC (SUP 2.x, sensor value).\n") && text.contains("Curve 2 has no ACES matrix. It has scene"));
         assert!(text.contains("4      12, 16, 140  0\n") && text.contains("one unit is 2^-24") && text.contains("    10  no pixel"));
         assert!(text.contains("Width 140 is the legal range of 12 bits: the codes 256 to 3760.\n"));
-        assert!(text.find("    11  a code is below") < text.find("    6   a code is above"));
+        let places = ["5   the EI", "12  the curve has no", "11  a code is below", "6   a code is above"].map(|words| text.find(words));
+        assert!(places[0].is_some() && places.windows(2).all(|two| two[0] < two[1]));
     }
 }

@@ -1,5 +1,5 @@
 //! `inspect`: what a file holds.
-use crate::conversion::judging;
+use crate::conversion::{judging, TO_ACES};
 use crate::convert::refused;
 use crate::failure::{Cause, Failure};
 use crate::input::Input;
@@ -80,7 +80,12 @@ fn allowed_by_records(input: &Input, kind: &Kind) -> Result<bool, Cause> {
     }
     let mut first = room(LOOKED_AT * kind.size())?;
     let read = read_at(input.file(), &mut first, 0).map_err(|error| Cause::files("cannot read", &error))?;
-    Ok(first[..read].chunks_exact(kind.size()).all(|record| known(&Setting::of(record))))
+    Ok(first[..read].chunks_exact(kind.size()).all(|record| can_have(kind, &Setting::of(record))))
+}
+
+/// Whether records of a kind can have a setting: those of ACES numbers only one with a matrix.
+fn can_have(kind: &Kind, setting: &Setting) -> bool {
+    known(setting) && (kind != &ACES || setting.has_matrix())
 }
 
 /// A file seen as records of a kind.
@@ -138,24 +143,47 @@ fn facts(views: &[View], by: &str) -> Facts {
     Facts { words, json, refused: views.iter().all(|view| view.refused.is_some()) }
 }
 
+/// A line with what is counted or measured, and the figures.
+fn row(what: &str, figures: String) -> String {
+    format!("\n    {:32} {}", what, figures)
+}
+
 impl View {
+    /// Records of settings that cannot go to ACES.
+    fn no_matrix(&self) -> u64 {
+        self.summary.settings.iter().filter(|(setting, _)| !setting.has_matrix()).map(|(_, records)| records).sum()
+    }
+
     fn words(&self) -> String {
         let mut words = format!("\n    {} bytes, {} records", self.bytes, self.records);
         for (setting, records) in &self.summary.settings {
-            words += &format!("\n    {:30} {} records", setting.to_string(), records);
+            words += &row(&setting.to_string(), format!("{} records", records));
         }
-        if self.summary.others > 0 {
-            words += &format!("\n    {:30} {} records", "no setting that there is", self.summary.others);
+        for (what, records) in [("of these without an ACES matrix", self.no_matrix()), ("no setting that there is", self.summary.others)] {
+            if records > 0 {
+                words += &row(what, format!("{} records", records));
+            }
         }
         for (channel, range) in CHANNELS.iter().zip(self.summary.ranges) {
             if let Some((least, most)) = range {
-                words += &format!("\n    {:30} {} to {}", format!("{} {}s", channel, self.kind.number), least, most);
+                words += &row(&format!("{} {}s", channel, self.kind.number), format!("{} to {}", least, most));
             }
         }
-        match &self.refused {
-            None => words + "\n    nothing is refused",
-            Some(refused) => words + &format!("\n    refused {}: {}", refused.number, refused.words),
+        words + &self.verdict()
+    }
+
+    /// The first refusal, or that there is none. Pixels are judged without regard to a matrix, and to-aces needs one.
+    fn verdict(&self) -> String {
+        let no_aces = self.kind == TO_ACES.from && self.no_matrix() > 0;
+        let mut words = match &self.refused {
+            Some(refused) => format!("\n    refused {}: {}", refused.number, refused.words),
+            None if no_aces => format!("\n    {} refuses nothing", judging(self.kind).name),
+            None => "\n    nothing is refused".to_string(),
+        };
+        if no_aces {
+            words += &format!("\n    {} refuses the file: it takes no record without an ACES matrix", TO_ACES.name);
         }
+        words
     }
 
     fn json(&self) -> Value {
@@ -167,6 +195,7 @@ impl View {
             "records": self.records,
             "settings": self.summary.settings_json(),
             "no_setting": self.summary.others,
+            "no_matrix": self.no_matrix(),
             "ranges": ranges,
             "refusal": refusal,
         })

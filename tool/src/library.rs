@@ -106,6 +106,31 @@ mod tests {
     }
 
     #[test]
+    fn the_older_firmware() {
+        let of = |width: u8, ei: u16, codes: [u16; 3]| {
+            let mut pixel = vec![2, width];
+            pixel.extend(ei.to_le_bytes());
+            codes.iter().for_each(|code| pixel.extend(code.to_le_bytes()));
+            pixel
+        };
+        let (ends, mut scene, mut pixel) = (of(12, 800, [0, 538, 4095]), [0; kinds::SCENE.size()], [0; kinds::PIXEL.size()]);
+        assert_eq!(pixel_to_scene(&ends, &mut scene), Ok(1));
+        assert_eq!(kinds::SCENE.numbers(&scene), [53187, 65554, 26839606]);
+        assert_eq!(scene_to_pixel(&scene, &mut pixel), Ok(1));
+        assert_eq!(pixel, ends[..]);
+        let refused = |number| Err(Refusal { number, record: 0 });
+        assert_eq!(aces_to_pixel(&scene, &mut pixel), refused(12));
+        for (pixel, by_scene, by_aces) in [
+            (of(12, 800, [0, 538, 4095]), Ok(1), refused(12)),
+            (of(12, 800, [4096, 0, 0]), refused(6), refused(12)),
+            (of(12, 0, [4096, 0, 0]), refused(5), refused(5)),
+            (of(16, 800, [0; 3]), refused(4), refused(4)),
+        ] {
+            assert_eq!((pixel_to_scene(&pixel, &mut scene), pixel_to_aces(&pixel, &mut scene)), (by_scene, by_aces));
+        }
+    }
+
+    #[test]
     fn empty_and_refused() {
         assert_eq!(pixel_to_aces(&[], &mut []), Ok(0));
         let mut kept = [7; 2 * kinds::ACES.size()];

@@ -1,5 +1,6 @@
 //! The refusals: the one table of their numbers and words, and the words for a refused record. The library decides; this only reads the
 //! refused record again.
+use crate::conversion::{FROM_SCENE, TO_SCENE};
 use crate::kinds::{Kind, CHANNELS};
 use crate::settings::{listed, Setting, CURVES};
 
@@ -13,11 +14,12 @@ pub struct Refusal {
 }
 
 /// In the order in which they are tried. 2, an output that is too short, is not here: the command makes room for every record.
-pub const REFUSALS: [Refusal; 8] = [
+pub const REFUSALS: [Refusal; 9] = [
     Refusal { number: 1, when: "the input is not a whole number of records", cause: |_, _, _| String::new() },
-    Refusal { number: 3, when: "the curve is not known", cause: curve },
+    Refusal { number: 3, when: "the curve is not 2, 3 or 4", cause: curve },
     Refusal { number: 4, when: "the width is not one of the curve's", cause: width },
     Refusal { number: 5, when: "the EI is not one of the curve's", cause: ei },
+    Refusal { number: 12, when: "the curve has no ACES matrix", cause: no_matrix },
     Refusal { number: 11, when: "a code is below the first code of its width", cause: code_below_first },
     Refusal { number: 6, when: "a code is above the top code of its width", cause: code_above_top },
     Refusal { number: 7, when: "a scene number to encode is outside -2^40 to 2^40", cause: scene_out_of_range },
@@ -58,7 +60,11 @@ impl Refused {
 }
 
 fn curve(_: &Kind, setting: &Setting, _: &[u8]) -> String {
-    format!("curve {} is neither {}", setting.curve, listed(CURVES.iter().map(|curve| curve.byte.into()), "nor"))
+    format!("curve {} is not {}", setting.curve, any_curve())
+}
+
+fn any_curve() -> String {
+    listed(CURVES.iter().map(|curve| curve.byte.into()), "or")
 }
 
 fn width(_: &Kind, setting: &Setting, _: &[u8]) -> String {
@@ -74,6 +80,16 @@ fn ei(_: &Kind, setting: &Setting, _: &[u8]) -> String {
 fn not_one_of(what: &str, value: u16, setting: &Setting, known: Vec<u16>) -> String {
     let (verb, end) = if known.len() == 1 { ("is", " only") } else { ("are", "") };
     format!("{} {} is not one of curve {}'s, which {} {}{}", what, value, setting.curve, verb, listed(known, "and"), end)
+}
+
+/// With the conversions that take records of such a curve.
+fn no_matrix(kind: &Kind, setting: &Setting, _: &[u8]) -> String {
+    let (curve, there, back) = (setting.curve, TO_SCENE.name, FROM_SCENE.name);
+    if kind == TO_SCENE.from {
+        format!("curve {} has no ACES matrix: {} converts its pixel records, and {} converts them back", curve, there, back)
+    } else {
+        format!("curve {} has no ACES matrix, and so no ACES records: {} converts its scene records", curve, back)
+    }
 }
 
 fn code_below_first(kind: &Kind, setting: &Setting, record: &[u8]) -> String {
@@ -108,7 +124,7 @@ fn no_pixel(kind: &Kind, setting: &Setting, record: &[u8]) -> String {
 mod tests {
     use super::*;
     use crate::conversion::CONVERSIONS;
-    use crate::kinds::PIXEL;
+    use crate::kinds::{ACES, PIXEL};
 
     fn words(number: u32, index: u64, setting: (u8, u8, u16), codes: [u16; 3]) -> String {
         let mut record = Setting { curve: setting.0, width: setting.1, ei: setting.2 }.bytes().to_vec();
@@ -131,15 +147,31 @@ mod tests {
 
     #[test]
     fn settings() {
-        assert_eq!(words(3, 0, (2, 12, 0), [0; 3]), "record 0 (byte 0): curve 2 is neither 3 nor 4");
+        assert_eq!(words(3, 0, (7, 12, 0), [0; 3]), "record 0 (byte 0): curve 7 is not 2, 3 or 4");
+        assert!(words(4, 1, (2, 16, 800), [0; 3]).ends_with("width 16 is not one of curve 2's, which are 10 and 12"));
         assert!(words(4, 1, (4, 10, 0), [0; 3]).ends_with("width 10 is not one of curve 4's, which are 12, 16 and 140"));
         assert!(words(4, 1, (3, 140, 800), [0; 3]).ends_with("width 140 is not one of curve 3's, which are 10, 12 and 16"));
         assert!(words(5, 2, (4, 12, 800), [0; 3]).ends_with("EI 800 is not one of curve 4's, which is 0 only"));
     }
 
     #[test]
+    fn the_curves_are_those_of_the_table() {
+        let when = REFUSALS.iter().find(|refusal| refusal.number == 3).map(|refusal| refusal.when.to_string());
+        assert_eq!(when, Some(format!("the curve is not {}", any_curve())));
+    }
+
+    #[test]
+    fn no_matrix_says_which_conversions_take_the_records() {
+        let words = |kind: &Kind| Refused::record(kind, 12, 5, &vec![2; kind.size()]).words;
+        let pixel = "curve 2 has no ACES matrix: to-scene converts its pixel records, and from-scene converts them back";
+        assert_eq!(words(&PIXEL), format!("record 5 (byte 50): {}", pixel));
+        let aces = "curve 2 has no ACES matrix, and so no ACES records: from-scene converts its scene records";
+        assert_eq!(words(&ACES), format!("record 5 (byte 140): {}", aces));
+    }
+
+    #[test]
     fn a_byte_beyond_four_gigabytes() {
-        assert!(words(3, 1 << 32, (2, 12, 0), [0; 3]).starts_with("record 4294967296 (byte 42949672960)"));
+        assert!(words(3, 1 << 32, (7, 12, 0), [0; 3]).starts_with("record 4294967296 (byte 42949672960)"));
     }
 
     #[test]

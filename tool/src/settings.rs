@@ -22,6 +22,8 @@ pub struct Curve {
     pub name: &'static str,
     pub widths: &'static [Width],
     pub eis: &'static [u16],
+    /// Whether ARRI publishes its matrix to ACES.
+    pub matrix: bool,
 }
 
 /// The full range of a width in bits.
@@ -32,14 +34,13 @@ const fn full(bits: u8) -> Width {
 /// The legal range of 12 bits, as recorders write it.
 const LEGAL: Width = Width { byte: 140, lowest: 256, highest: Some(3760), step: 1 };
 
-pub const CURVES: [Curve; 2] = [
-    Curve {
-        byte: 3,
-        name: "LogC3 (SUP 3.x, scene exposure)",
-        widths: &[full(10), full(12), full(16)],
-        eis: &[160, 200, 250, 320, 400, 500, 640, 800, 1000, 1280, 1600],
-    },
-    Curve { byte: 4, name: "LogC4", widths: &[full(12), full(16), LEGAL], eis: &[0] },
+/// Those with a published formula.
+const EIS: &[u16] = &[160, 200, 250, 320, 400, 500, 640, 800, 1000, 1280, 1600];
+
+pub const CURVES: [Curve; 3] = [
+    Curve { byte: 2, name: "LogC (SUP 2.x, sensor value)", widths: &[full(10), full(12)], eis: EIS, matrix: false },
+    Curve { byte: 3, name: "LogC3 (SUP 3.x, scene exposure)", widths: &[full(10), full(12), full(16)], eis: EIS, matrix: true },
+    Curve { byte: 4, name: "LogC4", widths: &[full(12), full(16), LEGAL], eis: &[0], matrix: true },
 ];
 
 /// The bytes of a setting, with which every record begins.
@@ -69,6 +70,11 @@ impl Setting {
     pub fn width(&self) -> Option<&'static Width> {
         self.curve()?.widths.iter().find(|width| width.byte == self.width)
     }
+
+    /// Whether its numbers can go to ACES.
+    pub fn has_matrix(&self) -> bool {
+        self.curve().map_or(false, |curve| curve.matrix)
+    }
 }
 
 impl fmt::Display for Setting {
@@ -90,11 +96,11 @@ pub fn known(setting: &Setting) -> bool {
     setting.width().is_some() && setting.curve().map_or(false, |curve| curve.eis.contains(&setting.ei))
 }
 
-/// Numbers in words: "3", "3 and 4", "10, 12 and 16".
-pub fn listed(numbers: impl IntoIterator<Item = u16>, last: &str) -> String {
+/// Numbers in words, with a word before the last: "3", "3 and 4", "10, 12 or 16".
+pub fn listed(numbers: impl IntoIterator<Item = u16>, word: &str) -> String {
     let words: Vec<String> = numbers.into_iter().map(|number| number.to_string()).collect();
     match words.split_last() {
-        Some((end, rest)) if !rest.is_empty() => format!("{} {} {}", rest.join(", "), last, end),
+        Some((end, rest)) if !rest.is_empty() => format!("{} {} {}", rest.join(", "), word, end),
         _ => words.concat(),
     }
 }
@@ -104,13 +110,19 @@ mod tests {
     use super::*;
 
     #[test]
-    fn there_are_36_and_each_reads_back() {
-        assert_eq!(all().count(), 36);
+    fn there_are_58_and_each_reads_back() {
+        assert_eq!((all().count(), all().filter(Setting::has_matrix).count()), (58, 36));
         assert!(all().all(|setting| Setting::of(&setting.bytes()) == setting && known(&setting)));
     }
 
     #[test]
+    fn codes_of_all_settings() {
+        let codes = |width: &Width| (usize::from(width.highest()) - usize::from(width.lowest)) / usize::from(width.step) + 1;
+        assert_eq!(all().map(|setting| codes(setting.width().unwrap())).sum::<usize>(), 906_673);
+    }
+
+    #[test]
     fn numbers_in_words() {
-        assert_eq!([listed([0], "and"), listed([3, 4], "nor"), listed([10, 12, 16], "and")], ["0", "3 nor 4", "10, 12 and 16"]);
+        assert_eq!([listed([0], "and"), listed([3, 4], "and"), listed([10, 12, 16], "or")], ["0", "3 and 4", "10, 12 or 16"]);
     }
 }
