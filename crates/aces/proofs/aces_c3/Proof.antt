@@ -1,9 +1,9 @@
 -- `aces_c3` meets its contract: each row product is rounded once.
 -- Assumes nothing.
-use mathlib.Core.Path.{_∙_}
+use mathlib.Core.Path.{sym, _∙_, subst}
 use Rattle.whole.proofs.Words.{read-back}
 use Rattle.rules.specs.Matrix.{logC3Matrix, acesNumber}
-use Rattle.row_product.specs.Row.{SmallRows}
+use Rattle.row_product.specs.Row.{Sum, SmallRows}
 use Rattle.row_product.proofs.Sizes.{Read, read-products, rows-small, number-fits}
 use Rattle.aces.proofs.aces_c3.Statement.{statement}
 use Rattle.aces.proofs.aces_c3.Tie as tie
@@ -23,13 +23,13 @@ read c =
     (rw (read-back (number-fits (s .pre .0)), read-back (number-fits (s .pre .1 .0)), read-back (number-fits (s .pre .1 .1))) at (c .products .ensures))
 
 over-million-requires : tie.Need-over-million-requires
-over-million-requires c κs = let r = read (c .before) in rw (r .red) (r .red-sum)
+over-million-requires c κs = let r = read (c .before) in subst Sum (sym (r .red)) (r .red-sum)
 
 over-million-requires-2 : tie.Need-over-million-requires-2
-over-million-requires-2 c κs = let r = read (c .before .before .before) in rw (r .green) (r .green-sum)
+over-million-requires-2 c κs = let r = read (c .before .before .before) in subst Sum (sym (r .green)) (r .green-sum)
 
 over-million-requires-3 : tie.Need-over-million-requires-3
-over-million-requires-3 c κs = let r = read (c .before .before .before .before .before) in rw (r .blue) (r .blue-sum)
+over-million-requires-3 c κs = let r = read (c .before .before .before .before .before) in subst Sum (sym (r .blue)) (r .blue-sum)
 
 returns : tie.Need-returns
 unfolding acesNumber

@@ -1,6 +1,6 @@
 -- `over_digits` meets its contract: the carries of the lower digits, then one rounding.
 -- Assumes nothing.
-use mathlib.Core.Path.{_≡_, _∙_}
+use mathlib.Core.Path.{_≡_, ap, ap₂, _∙_}
 use native.Mathlib.Omega.{arith}
 use lib.Dec.{lit≤}
 use lib.IntN.{ℤ, pos, natAbs, _+ℤ_}
@@ -8,11 +8,14 @@ use lib.Signed.{shrZ}
 use mir.Syntax.{w64}
 use mir.Val.{SFits}
 use Prim.Native.Nat.{_≤_}
-use Rattle.whole.proofs.Words.{readBack, read-back}
+use Rattle.whole.proofs.Words.{readBack, read-back, read-is}
 use Rattle.row_product.proofs.Carries.{more-fits, more-small, halved-small, carried-fits, quotient-small}
 use Rattle.aces.proofs.Rounding.{digits}
 use Rattle.aces.proofs.over_digits.Statement.{statement}
 use Rattle.aces.proofs.over_digits.Tie as tie
+
+abbrev over : ℤ → ℤ
+over z = shrZ z 1000000
 
 -- the first carry
 module _ (c : tie.After-floor-million) where
@@ -28,6 +31,9 @@ module _ (c : tie.After-floor-million) where
   first : SFits w64 (c .before .args .m +ℤ carry)
   first = more-fits (c .before .args .m) carry (c .before .pre .1 .0) (omega (arith, carry-small))
 
+  first-is : readBack (readBack (c .before .args .m) +ℤ readBack (c .floor-million .result)) ≡ c .before .args .m +ℤ carry
+  first-is = read-is (ap₂ _+ℤ_ (read-back (c .before .fits .m)) carry-is) first
+
 -- the second
 module _ (c : tie.After-floor-million2) where
   abbrev second : ℤ
@@ -35,8 +41,7 @@ module _ (c : tie.After-floor-million2) where
 
   second-is : readBack (c .floor-million2 .result) ≡ second
   second-is =
-      read-back (record { sfits = c .floor-million2 .ok })
-      ∙ (rw (read-back (c .before .before .fits .m), carry-is (c .before), read-back (first (c .before))) at (c .floor-million2 .ensures))
+      read-back (record { sfits = c .floor-million2 .ok }) ∙ c .floor-million2 .ensures ∙ ap over (first-is (c .before))
 
   second-small : natAbs second ≤ 9000000000001
   second-small =

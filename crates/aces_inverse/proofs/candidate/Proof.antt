@@ -8,7 +8,7 @@ use lib.IntN.{ℤ}
 use Rattle.whole.proofs.Words.{read-back}
 use Rattle.rules.specs.Fraction.{integer, whole, _/ℚ_, nearest}
 use Rattle.rules.specs.Matrix.{acesNumber}
-use Rattle.row_product.specs.Row.{Number, SmallRows}
+use Rattle.row_product.specs.Row.{Number, Sum, SmallRows}
 use Rattle.row_product.proofs.Sizes.{Read, read-products, number-fits}
 use Rattle.aces_inverse.specs.Inverse.{lowRows, highRows}
 use Rattle.aces_inverse.proofs.Digits.{low-small, high-small, pair-is}
@@ -52,13 +52,13 @@ module _ (c : tie.After-products2) where
       (rw (read-back (number-fits (red-number s)), read-back (number-fits (green-number s)), read-back (number-fits (blue-number s)), c .before .high-of .ensures) at (c .products2 .ensures))
 
 over-binary-requires : tie.Need-over-binary-requires
-over-binary-requires c κs = let k = c .before .before in rw (low k .red, high k .red) (low k .red-sum, high k .red-sum)
+over-binary-requires c κs = let k = c .before .before in (subst Sum (sym (low k .red)) (low k .red-sum), subst Sum (sym (high k .red)) (high k .red-sum))
 
 over-binary-requires-2 : tie.Need-over-binary-requires-2
-over-binary-requires-2 c κs = let k = c .before .before .before .before .before in rw (low k .green, high k .green) (low k .green-sum, high k .green-sum)
+over-binary-requires-2 c κs = let k = c .before .before .before .before .before in (subst Sum (sym (low k .green)) (low k .green-sum), subst Sum (sym (high k .green)) (high k .green-sum))
 
 over-binary-requires-3 : tie.Need-over-binary-requires-3
-over-binary-requires-3 c κs = let k = c .before .before .before .before .before .before .before .before in rw (low k .blue, high k .blue) (low k .blue-sum, high k .blue-sum)
+over-binary-requires-3 c κs = let k = c .before .before .before .before .before .before .before .before in (subst Sum (sym (low k .blue)) (low k .blue-sum), subst Sum (sym (high k .blue)) (high k .blue-sum))
 
 abbrev over : ℤ → ℤ
 over w = nearest (integer w /ℚ whole 1099511627776)

@@ -2,8 +2,10 @@
 -- Assumes nothing.
 use mathlib.Core.Path.{_≡_}
 use mathlib.Core.Bool.{true, false}
-use lib.IntN.{pos}
+use lib.IntN.{ℤ, pos, negsuc, _-ℤ_}
 use lib.Signed.{ltZ}
+use mir.Syntax.{w64}
+use mir.Val.{SFits}
 use Rattle.whole.specs.Parts.{up}
 use Rattle.whole.proofs.Floor.{above-zero, floor-fits, quotient-below, quotient-above}
 use Rattle.whole.proofs.Words.{read-back, not-is, not-fits, not-not}
@@ -16,8 +18,11 @@ below c = rw (read-back (c .before .fits .x)) at (c .if1 .taken)
 above : (c : tie.Else1) → ltZ (c .before .args .x) (pos 0) ≡ false
 above c = rw (read-back (c .before .fits .x)) at (c .if1 .left)
 
+inner-fits : {x : ℤ} → SFits w64 x → SFits w64 (negsuc 0 -ℤ x)
+inner-fits {x} f = rw (not-is x) (not-fits x f)
+
 sub-result : tie.Need-sub-result
-sub-result c = rw (read-back (c .before .fits .x), not-is) (not-fits _ (c .before .fits .x))
+sub-result c = rw (read-back (c .before .fits .x)) (inner-fits (c .before .fits .x))
 
 div-result : tie.Need-div-result
 div-result c =
