@@ -209,6 +209,11 @@ def older_firmware(folder):
     words = f"curve 2 has no ACES matrix{NO_MATRIX[PIXEL]}\n"
     keeps(out, "to-aces", pixels, out, status=REFUSED, saying=f"{pixels}: refused 12: record 5 (byte 50): {words}")
     holds(call("verify", pixels), REFUSED, f"{pixels}: refused 12: record 5 (byte 50): {words}")
+    same = f"{pixels}: 2205 records come back from scene numbers the same\n"
+    assert call("verify", pixels, pixels, "--scene")[:2] == (DONE, same * 2 + "2 files: 2 held, 0 refused, 0 could not be read\n")
+    (folder / "bad.pixels").write_bytes(reel_of[:100] + b"\2\x10" + reel_of[102:])
+    words = "width 16 is not one of curve 2's, which are 10 and 12\n"
+    holds(call("verify", folder / "bad.pixels", "--scene"), REFUSED, f"{folder / 'bad.pixels'}: refused 4: record 10 (byte 100): {words}")
 
     # its scene records are no ACES records, and no master
     words = f"refused 12: record 5 (byte {5 * NUMBERS.size}): curve 2 has no ACES matrix{NO_MATRIX[NUMBERS]}\n"

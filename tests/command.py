@@ -52,7 +52,8 @@ def wrong_usage(folder):
         (("to-aces", source, out, "--fast"), "'--fast'"), (("to-aces", source, out, "--threads"), "--threads"),
         (("to-aces", source, out, "--threads", "0"), "1..=256"), (("to-aces", source, out, "--chunk", "many"), "--chunk"),
         (("to-aces", source, "-"), "a pipe cannot promise"), (("to-aces", source, source), "the same file"),
-        (("verify", source, "--pair"), "two names"), (("--help", "more"), "'more'"), (("--version", "more"), "'more'"),
+        (("verify", source, "--pair"), "two names"), (("verify", source, source, "--pair", "--scene"), "'--scene'"),
+        (("--help", "more"), "'more'"), (("--version", "more"), "'more'"),
         (("help", "to-aces", "more"), "'more'"), (("to-aces", source, out, out, "--help"), "'"), (("demo", "more"), "'more'"), (("help", "none"), "'none'"),
     ):
         keeps(out, *words, status=USAGE, saying=saying)

@@ -61,7 +61,7 @@ pub fn command() -> Command {
         command = command.subcommand(of_conversion(conversion));
     }
     command
-        .subcommand(looking("verify", help::VERIFY, "IN", "Pixel records; '-' is standard input").arg(flag("pair", help::PAIR)).arg(kind()))
+        .subcommand(looking("verify", help::VERIFY, "IN", "Pixel records; '-' is standard input").args(verifying()).arg(kind()))
         .subcommand(looking("check", help::CHECK, "ACES", "ACES records; '-' is standard input").arg(kind()))
         .subcommand(looking("inspect", help::INSPECT, "FILE", "Records of any kind; '-' is standard input").arg(kind()))
         .subcommand(sub("demo", help::DEMO).args(splits()))
@@ -125,6 +125,10 @@ fn saying() -> [Arg; 2] {
 
 fn holding() -> [Arg; 2] {
     [flag("allow-empty", "Take an empty pipe for an input of 0 records"), flag("no-manifest", "Leave the manifest of an input aside")]
+}
+
+fn verifying() -> [Arg; 2] {
+    [flag("pair", help::PAIR), flag("scene", help::BY_SCENE).conflicts_with("pair")]
 }
 
 fn kind() -> Arg {
@@ -219,6 +223,7 @@ fn options(matches: &ArgMatches) -> Options {
         no_manifest: said("no-manifest"),
         kind: matches.try_get_one::<String>("kind").ok().flatten().and_then(|name| named(name)),
         pair: said("pair"),
+        scene: said("scene"),
     }
 }
 

@@ -12,6 +12,7 @@ pub const CHECK: &str = "Looks whether every record of a master comes from a pix
 pub const INSPECT: &str = "Shows what a file holds";
 pub const DEMO: &str = "Takes reels of every setting to ACES or scene and back; no input";
 pub const PAIR: &str = "Hold the first file, pixels, to the second, its master";
+pub const BY_SCENE: &str = "Go by scene numbers in place of ACES";
 
 const STATUS: &str = "Exit status: 0 done, 1 refused, 2 wrong usage, 3 reading or writing failed.\n";
 
@@ -126,6 +127,8 @@ if any is refused. Two names of which the second is that of a master (by its
 manifest, by its ending .aces, or since its records can be no pixels) hold the
 first to the second: that the way back gives these pixels from this master.
 --pair says so where the names do not. A file is held to its manifest.
+--scene is for reels of a curve without an ACES matrix: it takes the pixels of
+each file to scene numbers, as to-scene does, and back, as from-scene does.
 ";
 
 const CHECK_MORE: &str = "\

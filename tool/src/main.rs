@@ -77,7 +77,7 @@ fn perform(job: &Job, session: &Session) -> Result<End, Failure> {
             each(session, name, std::slice::from_ref(from), |from| convert::convert(session, conversion, from, to))
         }
         Job::Verify(files) => match &files[..] {
-            [pixels, master] if is_master(session, master)? => {
+            [pixels, master] if !session.options.scene && is_master(session, master)? => {
                 each(session, name, std::slice::from_ref(pixels), |pixels| verify::verify_pair(session, pixels, master))
             }
             _ if session.options.pair => Err(Failure::usage("--pair needs two names, pixels and their master")),

@@ -29,6 +29,8 @@ pub struct Options {
     pub kind: Option<&'static Kind>,
     /// `verify` holds the first file to the second.
     pub pair: bool,
+    /// `verify` goes by scene numbers in place of ACES.
+    pub scene: bool,
 }
 
 pub struct Session {

@@ -1,6 +1,6 @@
-//! `verify`: that pixels come back from ACES the same, or that a master gives these pixels; and `check`: that every record of a master comes
-//! from a pixel. Neither writes a file.
-use crate::conversion::{Conversion, TO_ACES, TO_CAMERA};
+//! `verify`: that pixels come back from ACES or from scene numbers the same, or that a master gives these pixels; and `check`: that every
+//! record of a master comes from a pixel. Neither writes a file.
+use crate::conversion::{Conversion, FROM_SCENE, TO_ACES, TO_CAMERA, TO_SCENE};
 use crate::convert::converted;
 use crate::failure::{Cause, Failure};
 use crate::kinds::{ACES, PIXEL};
@@ -12,22 +12,31 @@ use crate::sums::{read_at, sum_of, Named};
 use serde_json::json;
 use std::path::Path;
 
-/// Converts pixels to ACES and back, and compares.
+/// Two conversions, of which the second takes back what the first made.
+type Roads = [&'static Conversion; 2];
+
+const BY_ACES: Roads = [&TO_ACES, &TO_CAMERA];
+const BY_SCENE: Roads = [&TO_SCENE, &FROM_SCENE];
+
+/// Converts pixels to ACES or to scene numbers and back, and compares.
 pub fn verify(session: &Session, from: &Path) -> Result<Facts, Failure> {
+    let (roads, how) = match session.options.scene {
+        true => (BY_SCENE, " come back from scene numbers the same"),
+        false => (BY_ACES, " come back the same"),
+    };
     let mut reading = Reading::open(from, &PIXEL, "verify", session)?;
     let (chunk, file) = (session.options.split.chunk, reading.input.name.clone());
     let records = reading.run(|| {
-        let (mut aces, mut back) = (room(chunk * ACES.size())?, room(chunk * PIXEL.size())?);
+        let (mut made, mut back) = (room(chunk * roads[0].to.size())?, room(chunk * PIXEL.size())?);
         let file = &file;
-        Ok(move |part: &[u8], first: u64| returned(&TO_CAMERA, file, part, first, (&mut aces, &mut back)))
+        Ok(move |part: &[u8], first: u64| returned(roads, file, part, first, (&mut made, &mut back)))
     })?;
-    Ok(facts(records, " come back the same", reading.manifest.is_some()))
+    Ok(facts(records, how, reading.manifest.is_some()))
 }
 
-/// That a part comes back the same from ACES by a way back, with room for both strips. The theorem says that it does, so a difference is
-/// a fault of the machine.
-fn returned(back: &Conversion, file: &str, part: &[u8], first: u64, rooms: (&mut [u8], &mut [u8])) -> Result<(), Failure> {
-    let made = converted(&TO_ACES, file, part, first, rooms.0)?;
+/// That a part comes back the same, with room for both strips. The theorems say that it does, so a difference is a fault of the machine.
+fn returned([there, back]: [&Conversion; 2], file: &str, part: &[u8], first: u64, rooms: (&mut [u8], &mut [u8])) -> Result<(), Failure> {
+    let made = converted(there, file, part, first, rooms.0)?;
     let back = converted(back, file, made, first, rooms.1)?;
     match differing(part, back) {
         None => Ok(()),
@@ -124,7 +133,7 @@ mod tests {
     }
 
     fn tried(back: &Conversion) -> Result<(), Failure> {
-        returned(back, "in", &ONE.repeat(3), 5, (&mut [0; 84], &mut [0; 30]))
+        returned([&TO_ACES, back], "in", &ONE.repeat(3), 5, (&mut [0; 84], &mut [0; 30]))
     }
 
     #[test]
