@@ -18,9 +18,8 @@ use Rattle.rules.specs.Exact.{Scale, VersusExact}
 use Rattle.rules.specs.Decoding.{unit, tolerance}
 use Rattle.rules.specs.declared.Setting.{Setting}
 use Rattle.rules.specs.Setting.{ValidForAces}
-use Rattle.rules.proofs.Settings.{for-aces}
-use Rattle.whole.proofs.Tests.{each-of-three}
-use Rattle.rules.specs.Matrix.{Matrix, logC3Matrix, logC4Matrix, matrixFor, matrixOf, entry, acesNumber}
+use Rattle.rules.proofs.Bounds.{RowRoom, row-room}
+use Rattle.rules.specs.Matrix.{Matrix, matrixOf, entry, acesNumber}
 use Rattle.rules.specs.ExactRow.{acesTolerance, Side, VersusRow, WithinRow}
 use Rattle.decode.proofs.Close.{Close}
 use Rattle.row_product.proofs.Nearest.{nearest-of}
@@ -104,7 +103,7 @@ factor-positive zero b h = absurd (omega arith)
 factor-positive (suc a) b h = omega arith
 
 -- ---- a row
-module _ (N D P Q s : ℕ) (c₀ c₁ c₂ : ℤ) (light : 2 * N * (natAbs c₀ + natAbs c₁ + natAbs c₂) * Q + D * s * Q < 2 * D * P * s) (x y z : ℤ) where
+module _ (N D P Q s : ℕ) (c₀ c₁ c₂ : ℤ) (room : 2 * N * (natAbs c₀ + natAbs c₁ + natAbs c₂) * Q + D * s * Q < 2 * D * P * s) (x y z : ℤ) where
   abbrev S : ℤ
   S = c₀ *ℤ x +ℤ c₁ *ℤ y +ℤ c₂ *ℤ z
 
@@ -139,19 +138,15 @@ module _ (N D P Q s : ℕ) (c₀ c₁ c₂ : ℤ) (light : 2 * N * (natAbs c₀ 
   row : (b : Bool) → Versus (order b) ((product N D b c₀ x +ℚ product N D b c₁ y +ℚ product N D b c₂ z) /ℚ whole s) (moved b P Q A)
   row b =
       shaped P Q s (D * 2 ^ 24) b (product N D b c₀ x) (product N D b c₁ y) (product N D b c₂ z) A (product-over N D b c₀ x) (product-over N D b c₁ y) (product-over N D b c₂ z) over-positive
-      (bounded N D P Q s (natAbs c₀ + natAbs c₁ + natAbs c₂) _ _ (high b (integer S)) (low b (integer S)) (high b (integer A)) (low b (integer A)) light (sum-gained b) (rounded b))
+      (bounded N D P Q s (natAbs c₀ + natAbs c₁ + natAbs c₂) _ _ (high b (integer S)) (low b (integer S)) (high b (integer A)) (low b (integer A)) room (sum-gained b) (rounded b))
 
--- the weight of a row: its entries without their signs
-abbrev weight : Matrix → (i : ℕ) → ℕ
-weight m i = natAbs (entry m i 0) + natAbs (entry m i 1) + natAbs (entry m i 2)
-
--- THE RULE: the weight over the scale times N / D, and a half, are together less than P / Q
-module _ (N D P Q : ℕ) (m : Matrix) (i : ℕ) (light : 2 * N * weight m i * Q + D * m .scale * Q < 2 * D * P * m .scale) (k : Scale) (r g b : ℕ) (x y z : ℤ)
+-- THE RULE, where the row has room
+module _ (N D P Q : ℕ) (m : Matrix) (i : ℕ) (room : RowRoom (ratio N D) (ratio P Q) m i) (k : Scale) (r g b : ℕ) (x y z : ℤ)
     (cx : Close (ratio N D) k r x) (cy : Close (ratio N D) k g y) (cz : Close (ratio N D) k b z) where
   versus : (o : Bool) → VersusRow (order o) m i k r g b (moved o P Q (acesNumber m i x y z))
   unfolding acesNumber
   versus o =
-      let p = over-positive N D P Q (m .scale) (entry m i 0) (entry m i 1) (entry m i 2) light x y z in
+      let p = over-positive N D P Q (m .scale) (entry m i 0) (entry m i 1) (entry m i 2) room x y z in
       record {
         x = moved (sense o (entry m i 0)) N D x;
         y = moved (sense o (entry m i 1)) N D y;
@@ -160,23 +155,13 @@ module _ (N D P Q : ℕ) (m : Matrix) (i : ℕ) (light : 2 * N * weight m i * Q 
         red = on-side N D o (entry m i 0) x cx;
         green = on-side N D o (entry m i 1) y cy;
         blue = on-side N D o (entry m i 2) z cz;
-        already = row N D P Q (m .scale) (entry m i 0) (entry m i 1) (entry m i 2) light x y z o;
+        already = row N D P Q (m .scale) (entry m i 0) (entry m i 1) (entry m i 2) room x y z o;
       }
 
   pub row-within : WithinRow (ratio P Q) m i k r g b (acesNumber m i x y z)
   row-within = record { above = versus true; below = versus false }
 
--- the six rows of the published matrices, with the figures of the rules
-abbrev Light : Matrix → (i : ℕ) → Type 0
-Light m i = 2 * tolerance .plus * weight m i * acesTolerance .over + tolerance .over * m .scale * acesTolerance .over < 2 * tolerance .over * acesTolerance .plus * m .scale
-
-matrix-light : (s : Setting) → ValidForAces s → (i : ℕ) → i < 3 → Light (matrixOf s) i
-matrix-light s v i h =
-    for-aces (λ c. Light (matrixFor c) i) (each-of-three (Light logC3Matrix) (lit< tt) (lit< tt) (lit< tt) i h)
-    (each-of-three (Light logC4Matrix) (lit< tt) (lit< tt) (lit< tt) i h)
-    s
-    v
-
+-- the published rows have it, for the bounds of the rules
 pub matrix-within : (s : Setting) → ValidForAces s → (i : ℕ) → i < 3 → (k : Scale) (r g u : ℕ) (x y z : ℤ) → Close tolerance k r x → Close tolerance k g y → Close tolerance k u z
     → WithinRow acesTolerance (matrixOf s) i k r g u (acesNumber (matrixOf s) i x y z)
-matrix-within s v i h = row-within (tolerance .plus) (tolerance .over) (acesTolerance .plus) (acesTolerance .over) (matrixOf s) i (matrix-light s v i h)
+matrix-within s v i h = row-within (tolerance .plus) (tolerance .over) (acesTolerance .plus) (acesTolerance .over) (matrixOf s) i (row-room s v i h)

@@ -1,4 +1,4 @@
--- A decoded number is less than the tolerance from the exact value, in the toe too.
+-- Any number that the rules allow for a code is less than the tolerance from the exact value, in the toe too.
 -- Assumes nothing.
 use mathlib.Core.Bool.{Bool, true, false}
 use mathlib.Core.List.{List}
@@ -6,25 +6,23 @@ use mathlib.Core.Path.{_≡_, refl, _∙_}
 use Prim.Native.Nat.{ℕ, _+_, _-_, _*_, _^_, _≤_, _<_}
 use native.Mathlib.Nat.{sub-zero, le-of-lt, mul-le-mul-left, mul-lt-mul-of-pos-right}
 use native.Mathlib.Omega.{arith}
-use lib.Dec.{T, lit<}
+use lib.Dec.{T}
 use lib.IntN.{ℤ, subℕ}
 use lib.Signed.{shrZ}
 use Rattle.whole.specs.Parts.{up, dn}
 use Rattle.whole.proofs.Floor.{half-bounds}
 use Rattle.whole.proofs.Tidy.{tidy}
 use Rattle.rules.specs.declared.Setting.{Setting}
-use Rattle.rules.specs.declared.Check.the-variants.{Passed}
-use Rattle.rules.specs.Setting.{lastOf, stepOf, curveOf, codeCheck, Valid}
+use Rattle.rules.specs.Setting.{lastOf, stepOf, curveOf, Valid}
 use Rattle.rules.specs.Fraction.{Fraction, ratio, whole, integer, _+ℚ_, _-ℚ_, _*ℚ_, nearest, Versus, Less, Greater}
 use Rattle.rules.specs.Curve.{Curve, logC4, logC, inToe, toeValue}
 use Rattle.rules.specs.Exact.{Scale, signal, scaleOf, VersusPart, VersusExact}
-use Rattle.rules.specs.Decoding.{unit, tolerance, DecodesPart}
+use Rattle.rules.specs.Decoding.{unit, tolerance, DecodesPart, DecodesCode}
+use Rattle.rules.proofs.Bounds.{AboveHalf, above-half}
 use Rattle.curve_table.specs.Table.{tableOf}
-use Rattle.decode.specs.Decoded.{decoded}
 use Rattle.decode.proofs.Tests.{HasToe}
 use Rattle.decode.specs.Gap.{gapOf}
 use Rattle.decode.proofs.Settings.{passed}
-use Rattle.decode.proofs.Theorems.{decoding}
 
 -- y is less than e units from the exact value at a step
 pub record Close (e : Fraction) (k : Scale) (i : ℕ) (y : ℤ) : Type 0 where
@@ -32,7 +30,7 @@ pub record Close (e : Fraction) (k : Scale) (i : ℕ) (y : ℤ) : Type 0 where
   pub over : VersusExact Greater k (whole i) ((integer y +ℚ e) *ℚ unit)
 
 -- a fraction's nearest whole number is at most a half away, so less than any N / D above a half
-module _ (N D : ℕ) (half : D < 2 * N) where
+module _ (N D : ℕ) (half : AboveHalf (ratio N D)) where
   toe-close : (t : Fraction) → 0 < t .over → (y : ℤ) → y ≡ nearest (t *ℚ whole (2 ^ 24))
       → Versus Less ((integer y -ℚ ratio N D) *ℚ unit) t × Versus Greater ((integer y +ℚ ratio N D) *ℚ unit) t
   toe-close t h y e =
@@ -57,7 +55,7 @@ divides (logC c) last g t toe n h = positive (c .e) last (toe .divisor)
     positive e last h = rw (sub-zero, sub-zero) (omega arith)
 
 -- for the tolerance of the rules, which is above a half
-pub decoded-close : (s : Setting) → Valid s → (n : ℕ) → codeCheck s n ≡ Passed → Close tolerance (scaleOf s) (stepOf s n) (decoded s n)
-decoded-close s v n e =
-    part-close (tolerance .plus) (tolerance .over) (lit< tt) (scaleOf s) (stepOf s n) (decoded s n) (inToe (curveOf s) (signal (scaleOf s) (whole (stepOf s n))))
-    (divides (curveOf s) (lastOf s) (gapOf s) (tableOf s) (passed s v .toe) (stepOf s n)) refl (decoding s v n e)
+pub decodes-close : (s : Setting) → Valid s → (n : ℕ) (y : ℤ) → DecodesCode s n y → Close tolerance (scaleOf s) (stepOf s n) y
+decodes-close s v n y d =
+    part-close (tolerance .plus) (tolerance .over) above-half (scaleOf s) (stepOf s n) y (inToe (curveOf s) (signal (scaleOf s) (whole (stepOf s n))))
+    (divides (curveOf s) (lastOf s) (gapOf s) (tableOf s) (passed s v .toe) (stepOf s n)) refl d

@@ -2,6 +2,7 @@ pub mod Values
 pub mod Nearest
 pub mod Settings
 pub mod NoMatrix
+pub mod Bounds
 pub mod TopCode
 pub mod Codes
 pub mod Records
