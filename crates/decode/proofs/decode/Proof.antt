@@ -20,14 +20,15 @@ returns : tie.Need-returns
 unfolding decodeResult
 returns c = (rw (sym (c .before .before .before .check-setting .ensures) ∙ c .before .r .given .1), tt)
 
-right : (s : Setting) (n : ℕ) (r : Decoding) → decodingResult r ≡ decodeResult s n → (decodingResult r ≡ decodeResult s n) × Each (DecodesCode s n) (decodingResult r .values)
-right s n r e = (e, subst (λ (x : Result ℤ). Each (DecodesCode s n) (x .values)) (sym e) (result-decodes s n))
+decodes : (s : Setting) (n : ℕ) (r : Decoding) → decodingResult r ≡ decodeResult s n → Each (DecodesCode s n) (decodingResult r .values)
+decodes s n r e = subst (λ (x : Result ℤ). Each (DecodesCode s n) (x .values)) (sym e) (result-decodes s n)
 
 returns-2 : tie.Need-returns-2
 unfolding decodeResult
 returns-2 c =
     let a = c .before .before .before .before .args in
-    right (a .s) (a .n .0) (c .decode-valid .result) (rw (sym (c .before .before .before .check-setting .ensures) ∙ c .before .enum-told .given .1) (c .decode-valid .ensures))
+    let e : decodingResult (c .decode-valid .result) ≡ decodeResult (a .s) (a .n .0) = rw (sym (c .before .before .before .check-setting .ensures) ∙ c .before .enum-told .given .1) (c .decode-valid .ensures) in
+    (e, decodes (a .s) (a .n .0) (c .decode-valid .result) e)
 
 pub decode-spec : {M : Type 1} → statement M
 decode-spec =

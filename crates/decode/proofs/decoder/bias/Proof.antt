@@ -1,5 +1,7 @@
 -- `bias` meets its contract: what is added fits, and what is taken off is less.
 -- Assumes nothing.
+use mathlib.Core.Path.{ap₂}
+use Prim.Native.Nat.{ℕ, _+_, _-_, _*_, _^_}
 use native.Mathlib.Omega.{arith}
 use borrow.Author.Needs.{needs}
 use Rattle.decode.proofs.Quotient.{quotient-small}
@@ -16,6 +18,10 @@ sub-result c =
     let a = c .before .before in
     omega (arith, c .lower2 .ensures, quotient-small (a .args .above) (a .args .over) (a .pre .4) (a .pre .1))
 
+-- with the offset and a half, in halves of a unit
+returns : tie.Need-returns
+returns c = ap₂ (λ (x y : ℕ). 2097153 * 2 ^ 26 + x - y) (c .before .lower .ensures) (c .lower2 .ensures)
+
 pub bias-spec : {M : Type 1} → statement M
 bias-spec =
-    tie.close (tie.spec (λ c. search needs) (λ c κs. search needs) add-result (λ c κs. search needs) sub-result (λ c. search needs))
+    tie.close (tie.spec (λ c. search needs) (λ c κs. search needs) add-result (λ c κs. search needs) sub-result returns)
