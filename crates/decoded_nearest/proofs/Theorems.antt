@@ -1,5 +1,5 @@
 -- For every valid setting and each of its codes: the decoded number is the nearest whole number to the exact value in units, and no
--- other number is. (01 asks less: `Decodes`.)
+-- other number is. (The rules ask less: `Decodes`.)
 -- Assumes nothing.
 use mathlib.Core.Path.{_≡_}
 use Prim.Native.Nat.{ℕ}

@@ -1,5 +1,5 @@
--- A number that is the nearest whole number to the exact value in units: what 01 asks in the toe (a half going up), and more than it asks in
--- the power part, where the number is strictly nearer than a half.
+-- A number that is the nearest whole number to the exact value in units: what the rules ask in the toe (a half going up), and more than they
+-- ask in the power part, where the number is strictly nearer than a half.
 -- Assumes nothing.
 use mathlib.Core.Path.{_≡_}
 use Prim.Native.Nat.{ℕ, suc}

@@ -1,13 +1,12 @@
 -- The marked checks hold.
 -- Assumes nothing.
 use mathlib.Core.Bool.{Bool, true, false}
-use mathlib.Core.Logic.{_⊎_, inl, inr}
 use mathlib.Core.Path.{_≡_, refl, sym, ap, _∙_, subst}
 use Prim.Native.Nat.{ℕ, _^_, _≤_}
 use native.Mathlib.Nat.{le-refl, le-antisymm}
 use native.Mathlib.Omega.{arith}
-use borrow.Author.Tests.{eqb-true, eqb-false, ltb-true, ltb-false}
-use lib.Dec.{T, eqb, leb, ltb, lit<}
+use borrow.Author.Tests.{ltb-true, ltb-false}
+use lib.Dec.{T, leb, ltb, lit<}
 use lib.IntN.{ℤ, pos, negsuc, natAbs, _-ℤ_}
 use lib.Signed.{_<ℤ_}
 use Rattle.whole.specs.Parts.{up, minus}
@@ -49,28 +48,24 @@ curve4 = record { curve = logC4; last = topOf 12 }
 abbrev exponent-4095 : Fraction
 exponent-4095 = exponent logC4 (signal curve4 (whole 4095))
 
--- y - 1 is below the exact value, and y + 1 above it
-below-4095 : (y : ℤ) → VersusPower Less (powerFor logC4 ((integer y -ℚ tolerance) *ℚ unit)) 2 exponent-4095 → up y ≤ 7881936077
+abbrev number-4095 : ℕ
+number-4095 = 7881936077
+
+-- a number less the tolerance is below the exact value, and with it above
+below-4095 : (y : ℤ) → VersusPower Less (powerFor logC4 ((integer y -ℚ tolerance) *ℚ unit)) 2 exponent-4095 → up y ≤ number-4095
 below-4095 y h =
     omega (arith, one-zero y, simp tidy at (values.at-whole values.less 2 (lit< tt) (powerFor logC4 ((integer y -ℚ tolerance) *ℚ unit)) exponent-4095 20 (lit< tt) (lit< tt) refl h))
 
-above-4095 : (y : ℤ) → VersusPower Greater (powerFor logC4 ((integer y +ℚ tolerance) *ℚ unit)) 2 exponent-4095 → 7881936076 ≤ up y
+above-4095 : (y : ℤ) → VersusPower Greater (powerFor logC4 ((integer y +ℚ tolerance) *ℚ unit)) 2 exponent-4095 → number-4095 ≤ up y
 above-4095 y h =
     omega (arith, one-zero y, simp tidy at (values.at-whole (values.flip values.less) 2 (lit< tt) (powerFor logC4 ((integer y +ℚ tolerance) *ℚ unit)) exponent-4095 20 (lit< tt) (lit< tt) refl h))
 
-one-of-two : (y : ℤ) → up y ≤ 7881936077 → 7881936076 ≤ up y → (y ≡ pos 7881936076) ⊎ (y ≡ pos 7881936077)
-one-of-two (pos n) h g = go (eqb n 7881936076) refl
-  where
-    go : (x : Bool) → eqb n 7881936076 ≡ x → (pos n ≡ pos 7881936076) ⊎ (pos n ≡ pos 7881936077)
-    go true e = inl (ap pos (eqb-true n 7881936076 e))
-    go false e = inr (ap pos (other (eqb-false n 7881936076 e)))
-      where
-        other : (n ≡ 7881936076 → ⊥) → n ≡ 7881936077
-        other k = omega arith
-one-of-two (negsuc n) h g = absurd (omega arith)
+no-other : (y : ℤ) → up y ≤ number-4095 → number-4095 ≤ up y → y ≡ pos number-4095
+no-other (pos n) h g = ap pos (le-antisymm h g)
+no-other (negsuc n) h g = absurd (omega arith)
 
-code-4095-units : (y : ℤ) → Decodes curve4 4095 y → (y ≡ pos 7881936076) ⊎ (y ≡ pos 7881936077)
-code-4095-units y (DecodesPart.power (VersusPart.power l) (VersusPart.power h)) = one-of-two y (below-4095 y l) (above-4095 y h)
+code-4095-units : (y : ℤ) → Decodes curve4 4095 y → y ≡ pos number-4095
+code-4095-units y (DecodesPart.power (VersusPart.power l) (VersusPart.power h)) = no-other y (below-4095 y l) (above-4095 y h)
 
 code-4095 : VersusPart (λ m n. m ≡ n) logC4 (signal curve4 (whole 4095)) (ratio 2349 5) false
 code-4095 = VersusPart.power (values.of-whole values.equal 2 (lit< tt) (powerFor logC4 (ratio 2349 5)) exponent-4095 20 (lit< tt) (lit< tt) refl refl)

@@ -3,7 +3,6 @@
 use mathlib.Core.Bool.{true, false}
 use mathlib.Core.Path.{_≡_}
 use mathlib.Core.List.{List}
-use mathlib.Core.Logic.{_⊎_}
 use Prim.Native.Nat.{ℕ, _+_, _^_, _≤_}
 use lib.Ieee.{fin}
 use lib.IntN.{ℤ, pos}
@@ -31,7 +30,7 @@ use Rattle.rules.specs.Pixels.{triple}
 abbrev pub setting : (curve width ei : ℕ) → Setting
 setting curve width ei = record { curve = curve; width = width; ei = ei }
 
--- numbers for the codes of a setting: any that the rules allow, since they leave the power part's last unit free
+-- numbers for the codes of a setting: any that the rules allow, since they leave the power part some freedom
 abbrev pub Allowed : Setting → (number : ℕ → ℤ) → Type 0
 Allowed s number = (n : ℕ) → codeCheck s n ≡ Passed → DecodesCode s n (number n)
 
@@ -46,8 +45,8 @@ nextTriple = triple (minus 290085) (minus 290085) (minus 290084)
 pub record Marked : Type 0 where
   -- "curve 4, width 12, code 4095 is exactly 2349/5,
   pub code-4095 : VersusExact (λ m n. m ≡ n) (scaleOf (setting 4 12 0)) (whole (stepOf (setting 4 12 0) 4095)) (ratio 2349 5)
-  -- so 7,881,936,076 or 7,881,936,077."
-  pub code-4095-units : (y : ℤ) → DecodesCode (setting 4 12 0) 4095 y → (y ≡ pos 7881936076) ⊎ (y ≡ pos 7881936077)
+  -- .." and 02, item 4: "Case 4095 becomes 7,881,936,077 alone."
+  pub code-4095-units : (y : ℤ) → DecodesCode (setting 4 12 0) 4095 y → y ≡ pos 7881936077
   -- "Curve 3, EI 800, width 12: code 0 is -290,085;
   pub code-0 : (y : ℤ) → DecodesCode (setting 3 12 800) 0 y → y ≡ minus 290085
   -- code 100 is -213,758;

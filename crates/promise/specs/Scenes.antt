@@ -41,7 +41,7 @@ pub record EachChannel (a b : ℕ) (R : Setting → (from to : ℕ) → Type 0) 
   pub setting : settingOf out ≡ settingOf r
   pub channel : (i : ℕ) → i < 3 → R (settingOf r) (channelAt a r i) (channelAt b out i)
 
--- "Each decoded channel is less than one unit (2 to the power -24) from the exact ARRI curve"; "A
+-- "Each decoded channel is less than .. from the exact ARRI curve" (how far: Decoding.tolerance); "A
 -- setting and code have one decoded number, the same in every operation and channel.": it is the
 -- number that encoding compares with
 pub record IsDecoded (s : Setting) (code bits : ℕ) : Type 0 where

@@ -70,7 +70,7 @@ pub record IsGrey (r : List ℕ) (c : ℕ) : Type 0 where
 abbrev pub stepIn : List ℕ → (n : ℕ) → ℕ
 stepIn r n = stepOf (settingOf r) n
 
--- "each ACES number made from it is less than .. from what the exact curve and matrix give": the i-th
+-- "each ACES number made from it is less than .. from what the exact curve and matrix give" (how far: ExactRow.acesTolerance): the i-th
 -- number of the ACES record a, for the pixel record r
 abbrev pub NearExact : (i : ℕ) → (r a : List ℕ) → Type 0
 NearExact i r a = WithinRow acesTolerance (matrixOf (settingOf r)) i (scaleOf (settingOf r)) (stepIn r (pixelIn r .red .0)) (stepIn r (pixelIn r .green .0)) (stepIn r (pixelIn r .blue .0)) (numberIn i a)

@@ -15,9 +15,10 @@ use Rattle.rules.specs.Exact.{Scale, signal, scaleOf, VersusExact}
 abbrev pub unit : Fraction
 unit = ratio 1 (2 ^ 24)
 
--- "a whole number less than 1 away from the exact value times 2^24": how far a decoded number may be off, in units
+-- 02, item 4: "The power part must lie within 51/100 of a unit of the exact value instead of less than one." How far a decoded number may be
+-- off, in units. As in 01 it is less than that, which is within.
 abbrev pub tolerance : Fraction
-tolerance = ratio 1 1
+tolerance = ratio 51 100
 
 -- y is a decoded number of the step i, which is in the toe or not; in the power part it is less than e away
 pub data DecodesPart (e : Fraction) (k : Scale) (i : ℕ) (y : ℤ) : Bool → Type 0 where
@@ -32,7 +33,7 @@ pub data DecodesPart (e : Fraction) (k : Scale) (i : ℕ) (y : ℤ) : Bool → T
 abbrev pub DecodesWithin : Fraction → Scale → ℕ → ℤ → Type 0
 DecodesWithin e k i y = DecodesPart e k i y (inToe (k .curve) (signal k (whole i)))
 
--- what 01 asks of a decoded number of a step
+-- what is asked of a decoded number of a step
 abbrev pub Decodes : Scale → ℕ → ℤ → Type 0
 Decodes = DecodesWithin tolerance
 

@@ -8,10 +8,10 @@ use Rattle.rules.specs.Exact.{Scale, VersusExact}
 use Rattle.rules.specs.Decoding.{unit}
 use Rattle.rules.specs.Matrix.{Matrix, entry}
 
--- "less than two units from what the exact curve and matrix give": how far an ACES number may be off,
--- in units
+-- 02, item 4: "ACES numbers then lie within 9/8 of a unit of the exact curve and matrix, and that figure takes the place of two units
+-- wherever the archive promise quotes it." How far an ACES number may be off, in units. As in 01 it is less than that, which is within.
 abbrev pub acesTolerance : Fraction
-acesTolerance = ratio 2 1
+acesTolerance = ratio 9 8
 
 -- the matrix row of three fractions over the scale
 abbrev pub rowOver : Matrix → (i : ℕ) → (x y z : Fraction) → Fraction
