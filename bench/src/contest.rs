@@ -1,7 +1,7 @@
-//! The contest of one setting: the contestants' times, and the shares of pixels that come back a code off.
+//! The contest of one setting: the contestants' times, the shares of pixels that come back a code off, and how far ACES numbers are off.
 use crate::library::{convert, ropeinstant_aces_to_pixel, ropeinstant_pixel_to_aces, Function};
 use crate::ocio::Ocio;
-use crate::plain::{self, Codes, ACES, PIXEL};
+use crate::plain::{self, Codes, ACES, PIXEL, UNIT};
 
 #[repr(C)]
 struct Timespec {
@@ -43,6 +43,14 @@ pub struct Shares {
     pub off: [Option<f64>; 5],
     /// Of pixels whose ACES numbers by plain f64 are not the exact ones.
     pub inexact: f64,
+    /// Of ACES numbers by plain f64, and of OpenColorIO's in float32 and through half.
+    pub distances: [Option<Distance>; 3],
+}
+
+/// How far ACES numbers are from Ropeinstant's, in units.
+pub struct Distance {
+    pub mean: f64,
+    pub largest: f64,
 }
 
 impl Contest {
@@ -80,7 +88,7 @@ impl Contest {
 
     pub fn shares(&self) -> Shares {
         let (strip, aces) = (&self.strip, &self.aces);
-        let mut off = [None; 5];
+        let (mut off, mut distances) = ([None; 5], [None, None, None]);
         let (mut made, mut returned) = (vec![0; aces.len()], vec![0; strip.len()]);
         convert(ropeinstant_aces_to_pixel, aces, &mut returned);
         off[0] = Some(differing(strip, &returned, PIXEL));
@@ -88,14 +96,17 @@ impl Contest {
         off[1] = Some(differing(strip, &returned, PIXEL));
         assert!(plain::to_camera_of(&made, &mut returned, half));
         off[2] = Some(differing(strip, &returned, PIXEL));
+        distances[0] = Some(distance(aces, &numbers(&made)));
         if let Some(ocio) = &self.ocio {
             let mut values = signals(&self.setting, strip);
             ocio.to_aces(&mut values);
-            let halves = values.iter().map(|value| half(f64::from(*value)) as f32).collect();
+            let halves: Vec<f32> = values.iter().map(|value| half(f64::from(*value)) as f32).collect();
+            distances[1] = Some(distance(aces, &in_units(&values)));
+            distances[2] = Some(distance(aces, &in_units(&halves)));
             off[3] = Some(codes_off(&self.setting, strip, ocio, values));
             off[4] = Some(codes_off(&self.setting, strip, ocio, halves));
         }
-        Shares { off, inexact: differing(aces, &made, ACES) }
+        Shares { off, inexact: differing(aces, &made, ACES), distances }
     }
 }
 
@@ -157,6 +168,21 @@ fn now() -> f64 {
 fn differing(a: &[u8], b: &[u8], record: usize) -> f64 {
     let count = a.chunks_exact(record).zip(b.chunks_exact(record)).filter(|(x, y)| x != y).count();
     count as f64 / (a.len() / record) as f64
+}
+
+/// The numbers of ACES records, in units.
+fn numbers(aces: &[u8]) -> Vec<f64> {
+    aces.chunks_exact(ACES).flat_map(plain::numbers_of).collect()
+}
+
+fn in_units(values: &[f32]) -> Vec<f64> {
+    values.iter().map(|value| f64::from(*value) * UNIT).collect()
+}
+
+/// How far numbers are from those of ACES records.
+fn distance(aces: &[u8], others: &[f64]) -> Distance {
+    let off = || numbers(aces).into_iter().zip(others).map(|(own, other)| (own - other).abs());
+    Distance { mean: off().sum::<f64>() / others.len() as f64, largest: off().fold(0.0, f64::max) }
 }
 
 /// The share of pixels that OpenColorIO gives back a code off.

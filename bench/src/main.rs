@@ -4,7 +4,7 @@ mod library;
 mod ocio;
 mod plain;
 
-use contest::{Contest, Setting, Times, LINE};
+use contest::{Contest, Distance, Setting, Shares, Times, LINE};
 use ocio::Ocio;
 
 const COUNTED: usize = 1 << 20; // pixels of which those that come back a code off are counted
@@ -32,7 +32,13 @@ fn main() {
     println!("OpenColorIO: {}.\n", Ocio::version());
     print_times("pixel to ACES", &contests, |contest| &contest.to_aces);
     print_times("ACES to pixel", &contests, |contest| &contest.to_camera);
-    print_shares(&contests);
+    let shares: Vec<Shares> = contests.iter().map(Contest::shares).collect();
+    print_shares(&contests, &shares);
+    print_distances(&contests, &shares);
+    println!(
+        "Plain f64 reads and writes the same records with the same checks, but its way back gives the nearest codes and refuses nothing;"
+    );
+    println!("OpenColorIO works in place on float32 signals; turning codes to signals and back is not in its time.");
 }
 
 fn print_times(name: &str, contests: &[Contest], of: impl Fn(&Contest) -> &Times) {
@@ -48,22 +54,36 @@ fn print_times(name: &str, contests: &[Contest], of: impl Fn(&Contest) -> &Times
     println!();
 }
 
-fn print_shares(contests: &[Contest]) {
+fn print_shares(contests: &[Contest], shares: &[Shares]) {
     println!("Pixels that come back a code off, of {} a setting:\n", COUNTED);
     println!("| setting                   | Ropeinstant | plain f64 | through half | OpenColorIO, float32 | through half |");
     println!("|---------------------------|------------:|----------:|-------------:|---------------------:|-------------:|");
-    let mut inexact = Vec::new();
-    for contest in contests {
-        let shares = contest.shares();
+    for (contest, shares) in contests.iter().zip(shares) {
         let off = shares.off.map(|share| share.map_or("-".to_string(), percent));
         println!("| {:<25} | {:>11} | {:>9} | {:>12} | {:>20} | {:>12} |", title(&contest.setting), off[0], off[1], off[2], off[3], off[4]);
-        inexact.push(percent(shares.inexact));
     }
-    println!("\nPixels whose ACES numbers by plain f64 are not the exact ones, in the same order: {}.", inexact.join(", "));
-    println!(
-        "Plain f64 reads and writes the same records with the same checks, but its way back gives the nearest codes and refuses nothing;"
-    );
-    println!("OpenColorIO works in place on float32 signals; turning codes to signals and back is not in its time.");
+    let inexact: Vec<String> = shares.iter().map(|shares| percent(shares.inexact)).collect();
+    println!("\nPixels whose ACES numbers by plain f64 are not Ropeinstant's, in the same order: {}.\n", inexact.join(", "));
+}
+
+fn print_distances(contests: &[Contest], shares: &[Shares]) {
+    println!("Units from Ropeinstant's ACES numbers, which are within 9/8 of the exact curve and matrix: the mean, and the largest:\n");
+    println!("| setting                   |       plain f64 |  OpenColorIO, float32 |        through half |");
+    println!("|---------------------------|----------------:|----------------------:|--------------------:|");
+    for (contest, shares) in contests.iter().zip(shares) {
+        let [plain, ocio, half] = [0, 1, 2].map(|k| shares.distances[k].as_ref().map_or("-".to_string(), units));
+        println!("| {:<25} | {:>15} | {:>21} | {:>19} |", title(&contest.setting), plain, ocio, half);
+    }
+    println!();
+}
+
+fn units(distance: &Distance) -> String {
+    let digits = match distance.mean {
+        mean if mean == 0.0 => 0,
+        mean if mean < 1.0 => 7,
+        _ => 1,
+    };
+    format!("{:.*}, {:.0}", digits, distance.mean, distance.largest)
 }
 
 fn title(setting: &Setting) -> String {

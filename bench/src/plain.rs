@@ -3,7 +3,7 @@
 use crate::library::top_code;
 use std::convert::TryInto;
 
-const UNIT: f64 = 16777216.0; // units in 1
+pub const UNIT: f64 = 16777216.0; // units in 1
 
 // The bytes of a setting, of a code and of a number, and of a pixel record and an ACES record.
 const SETTING: usize = 4;
@@ -150,6 +150,11 @@ pub fn codes_of(pixel: &[u8]) -> [u16; 3] {
     [0, 1, 2].map(|i| SETTING + i * CODE).map(|at| u16::from_le_bytes([pixel[at], pixel[at + 1]]))
 }
 
+/// The numbers of an ACES record, in units.
+pub fn numbers_of(aces: &[u8]) -> [f64; 3] {
+    [0, 1, 2].map(|i| SETTING + i * NUMBER).map(|at| i64::from_le_bytes(aces[at..at + NUMBER].try_into().unwrap()) as f64)
+}
+
 /// Pixel records to ACES records; false if refused.
 pub fn to_aces(input: &[u8], output: &mut [u8]) -> bool {
     let mut kept = None;
@@ -185,9 +190,8 @@ pub fn to_camera_of(input: &[u8], output: &mut [u8], change: impl Fn(f64) -> f64
             Some(plain) => plain,
             None => return false,
         };
-        let value = |at: usize| change(i64::from_le_bytes(aces[at..at + NUMBER].try_into().unwrap()) as f64 / UNIT);
         pixel[..SETTING].copy_from_slice(&aces[..SETTING]);
-        let codes = plain.codes([0, 1, 2].map(|i| value(SETTING + i * NUMBER)));
+        let codes = plain.codes(numbers_of(aces).map(|number| change(number / UNIT)));
         codes.iter().zip(pixel[SETTING..].chunks_exact_mut(CODE)).for_each(|(code, bytes)| bytes.copy_from_slice(&code.to_le_bytes()));
     }
     true
