@@ -5,6 +5,8 @@ use crate::library::{aces_to_pixel, pixel_to_aces, pixel_to_scene, scene_to_pixe
 pub struct Conversion {
     pub name: &'static str,
     pub about: &'static str,
+    /// What is proved of what it writes, in lines of the help.
+    pub promise: &'static str,
     pub from: &'static Kind,
     pub to: &'static Kind,
     pub convert: fn(&[u8], &mut [u8]) -> Answer,
@@ -15,6 +17,10 @@ pub struct Conversion {
 pub const TO_ACES: Conversion = Conversion {
     name: "to-aces",
     about: "Converts pixel records to ACES records",
+    promise: "\
+Each ACES number is within 9/8 of a unit of what the exact curve and matrix
+give: the matrix row of the three scene numbers, rounded once.
+",
     from: &PIXEL,
     to: &ACES,
     convert: pixel_to_aces,
@@ -24,6 +30,9 @@ pub const TO_ACES: Conversion = Conversion {
 pub const TO_CAMERA: Conversion = Conversion {
     name: "to-camera",
     about: "Converts ACES records back to the pixels that gave them",
+    promise: "\
+Each pixel is the only one of its setting with exactly these ACES numbers.
+",
     from: &ACES,
     to: &PIXEL,
     convert: aces_to_pixel,
@@ -33,6 +42,10 @@ pub const TO_CAMERA: Conversion = Conversion {
 pub const TO_SCENE: Conversion = Conversion {
     name: "to-scene",
     about: "Converts pixel records to scene records",
+    promise: "\
+Each scene number is the nearest whole number of units to the exact curve, so
+within 51/100 of a unit of it.
+",
     from: &PIXEL,
     to: &SCENE,
     convert: pixel_to_scene,
@@ -42,6 +55,9 @@ pub const TO_SCENE: Conversion = Conversion {
 pub const FROM_SCENE: Conversion = Conversion {
     name: "from-scene",
     about: "Converts scene records to pixels with the nearest codes",
+    promise: "\
+Each code is the one whose scene number is nearest, of two the lower.
+",
     from: &SCENE,
     to: &PIXEL,
     convert: scene_to_pixel,

@@ -96,11 +96,12 @@ fn refusals() -> String {
 /// What stands below the help of a conversion.
 pub fn of_conversion(conversion: &Conversion) -> String {
     let mut text = format!(
-        "IN holds {} records of {} bytes, OUT {} records of {} bytes. Refused by\n",
+        "IN holds {} records of {} bytes, OUT {} records of {} bytes.\n{}\nRefused by\n",
         conversion.from.name,
         conversion.from.size(),
         conversion.to.name,
-        conversion.to.size()
+        conversion.to.size(),
+        conversion.promise
     );
     for refusal in REFUSALS.iter().filter(|refusal| conversion.refusals.contains(&refusal.number)) {
         text += &format!("    {:<3} {}\n", refusal.number, refusal.when);
