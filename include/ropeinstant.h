@@ -75,8 +75,8 @@ static inline const char *ropeinstant_words(uint32_t number)
     }
 }
 
-/* Decoding: pixel records (10 bytes) to scene records (28 bytes). Each scene number is the nearest whole number of units to the exact curve,
- * so within 51/100 of a unit of it. Refuses by 1 to 6 and 11. */
+/* Decoding: pixel records (10 bytes) to scene records (28 bytes). Each scene number is within 51/100 of a unit of the exact curve, and is
+ * the nearest whole number of units. Refuses by 1 to 6 and 11. */
 uint32_t ropeinstant_pixel_to_scene(const uint8_t *in, size_t in_len, uint8_t *out, size_t out_len, uint64_t *at);
 
 /* Encoding: scene records (28 bytes) to pixel records (10 bytes), each number to the nearest code. Refuses by 1 to 5 and 7. */

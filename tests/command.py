@@ -37,7 +37,7 @@ def help_and_version():
         said = call(NAMES[conversion], "--help")[1]
         assert re.findall(r"(?m)^    (\d+) ", said) == numbered.split(), (numbered, said)
         assert ("refuses the whole file:\nkeep its reels apart." in said) == (conversion == PIXEL_TO_ACES), said
-        assert ("within 9/8 of a unit of what the exact curve and matrix\ngive" in said) == (conversion == PIXEL_TO_ACES), said
+        assert ("within 9/8 of a unit of what the exact curve and matrix give" in said) == (conversion == PIXEL_TO_ACES), said
         assert ("within 51/100 of a unit" in said) == (conversion == PIXEL_TO_SCENE), said
     status, said, wrong = call("--version")
     assert status == DONE and not wrong and re.fullmatch(r"ropeinstant \d+\.\d+\.\d+\n", said), said

@@ -3,9 +3,10 @@
 
 Whatever they name in backticks has to exist and to stand where they say. Every must-fail edit and
 every open function has to be in PROMISES.md, under an id that has both of its rows, and every
-theorem of a file `Theorems`. Every crate has to be in ARCHITECTURE.md. The figures of FORMAT.md
-have to be those of the code, and links have to lead somewhere. No line of docs/ but a table's row
-is longer than 100 columns. How names are written is said in PROMISES.md. With the folder of the
+theorem of a file `Theorems`. No edit of a crate stands there twice. Every crate has to be in
+ARCHITECTURE.md. The figures of FORMAT.md have to be those of the code, the bounds in the documents,
+the header and the help those of the rules, and links have to lead somewhere. No line of docs/ but a
+table's row is longer than 100 columns. How names are written is said in PROMISES.md. With the folder of the
 demands and of 01, which are not in the repository, what the tables quote is also compared with
 them, letter for letter."""
 import functools, os, re, sys
@@ -418,6 +419,18 @@ def figures(sources, texts):
                 yield f"{document}: {' | '.join(columns)}: {[row for row in found if row not in right]} for {right}"
 
 
+def bounds(sources, texts):
+    """a bound that is given as a fraction of a unit is one of the rules', and that of an ACES number is in each of these places"""
+    rules = [(ROOT / f"crates/rules/specs/{file}.antt").read_text() for file in ("Decoding", "ExactRow")]
+    decoded, aces = ("/".join(re.search(r"(?m)^\w*[tT]olerance = ratio (\d+) (\d+)", text).groups()) for text in rules)
+    places = {d: texts[d] for d in (README, FORMAT, COMMAND, PROMISES, BENCHMARKS)}
+    for place, text in {**places, "include/ropeinstant.h": sources.installed, "the help": sources.tool}.items():
+        said = re.findall(r"(\d+/\d+) of a unit", " ".join(text.split()))
+        if aces not in said:
+            yield f"{place}: the bound of an ACES number is {aces} of a unit"
+        yield from (f"{place}: {figure} of a unit is no bound of the rules" for figure in {*said} - {decoded, aces})
+
+
 @functools.lru_cache(maxsize=None)
 def read(sources, document, text):
     """what is wrong with the names of a document, the edits that it names, and the proofs that it cites"""
@@ -439,6 +452,8 @@ def complaints(sources, texts):
     there = [path for path in sources.declared if path.endswith(".edit")]
     wrong += [f"{path} is not named in {PROMISES}" for path in there if path not in edits]
     wrong += [f"{path}: {name} is not in {PROMISES}" for path, name in sources.theorems if (path, name) not in cited]
+    texts_of = [(path.split("/")[1], (ROOT / path).read_text()) for path in there]
+    wrong += [f"{path} is another edit once more" for path, text in zip(there, texts_of) if texts_of.index(text) != there.index(path)]
     said = re.findall(r"(\d+) must-fail edits", texts[BENCHMARKS])
     if said != [str(len(there))]:
         wrong.append(f"{BENCHMARKS}: there are {len(there)} must-fail edits, not {said}")
@@ -447,7 +462,7 @@ def complaints(sources, texts):
     wrong += [f"crates/{c} is not in {ARCHITECTURE}" for c in sources.crates if c not in listed]
     named = " ".join(" ".join(texts.values()).split())
     wrong += [f"tests/documents.py: no document has `{name}`" for name in ALLOWED if f"`{name}`" not in named]
-    return [*wrong, *ids(texts), *links(texts), *long_lines(texts), *figures(sources, texts)]
+    return [*wrong, *ids(texts), *links(texts), *long_lines(texts), *figures(sources, texts), *bounds(sources, texts)]
 
 
 # ---- the quotations
@@ -500,6 +515,8 @@ def damaged(sources, texts):
         yield f"another figure in {figure}", swap(figure, figure.replace("0", "7").replace("9", "8"), FORMAT), FORMAT
     yield "another top code", swap("1023, ", "1024, ", FORMAT), "the top codes"
     yield "another count of settings", swap(" settings", " curves", README), "settings"
+    yield "another bound", swap("51/100 of a unit", "50/100 of a unit", README), "50/100 of a unit is no bound"
+    yield "no bound of an ACES number", swap("9/8 of a unit", "a unit", FORMAT), "the bound of an ACES number is 9/8"
     yield "a name of another file", swap(f"{named} in {place}", f"`main` in {place}", DECISIONS), "`main` is not in"
     yield "an open function with a `requires`", swap(open_one[0], f"{asks.crate} `{asks.name}`"), asks.name
     yield "an open function not listed", swap(f"| {open_one[0]} |", "| |"), open_one[2]

@@ -38,11 +38,12 @@ pub struct Contest {
     pub to_camera: Times,
 }
 
-pub struct Shares {
-    /// Of pixels a code off: Ropeinstant; plain f64 from its records and through half; OpenColorIO from float32 and through half.
+/// What the converted pixels of a strip are beside Ropeinstant's.
+pub struct Comparison {
+    /// The share of pixels a code off: Ropeinstant; plain f64 from its records and through half; OpenColorIO from float32 and through half.
     pub off: [Option<f64>; 5],
-    /// Of pixels whose ACES numbers by plain f64 are not the exact ones.
-    pub inexact: f64,
+    /// The share of pixels whose ACES numbers by plain f64 are not Ropeinstant's.
+    pub differing: f64,
     /// Of ACES numbers by plain f64, and of OpenColorIO's in float32 and through half.
     pub distances: [Option<Distance>; 3],
 }
@@ -86,7 +87,7 @@ impl Contest {
         }
     }
 
-    pub fn shares(&self) -> Shares {
+    pub fn compared(&self) -> Comparison {
         let (strip, aces) = (&self.strip, &self.aces);
         let (mut off, mut distances) = ([None; 5], [None, None, None]);
         let (mut made, mut returned) = (vec![0; aces.len()], vec![0; strip.len()]);
@@ -106,7 +107,7 @@ impl Contest {
             off[3] = Some(codes_off(&self.setting, strip, ocio, values));
             off[4] = Some(codes_off(&self.setting, strip, ocio, halves));
         }
-        Shares { off, inexact: differing(aces, &made, ACES), distances }
+        Comparison { off, differing: differing(aces, &made, ACES), distances }
     }
 }
 
@@ -181,8 +182,8 @@ fn in_units(values: &[f32]) -> Vec<f64> {
 
 /// How far numbers are from those of ACES records.
 fn distance(aces: &[u8], others: &[f64]) -> Distance {
-    let off = || numbers(aces).into_iter().zip(others).map(|(own, other)| (own - other).abs());
-    Distance { mean: off().sum::<f64>() / others.len() as f64, largest: off().fold(0.0, f64::max) }
+    let off: Vec<f64> = numbers(aces).iter().zip(others).map(|(own, other)| (own - other).abs()).collect();
+    Distance { mean: off.iter().sum::<f64>() / off.len() as f64, largest: off.iter().copied().fold(0.0, f64::max) }
 }
 
 /// The share of pixels that OpenColorIO gives back a code off.

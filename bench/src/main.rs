@@ -4,10 +4,10 @@ mod library;
 mod ocio;
 mod plain;
 
-use contest::{Contest, Distance, Setting, Shares, Times, LINE};
+use contest::{Comparison, Contest, Distance, Setting, Times, LINE};
 use ocio::Ocio;
 
-const COUNTED: usize = 1 << 20; // pixels of which those that come back a code off are counted
+const COUNTED: usize = 1 << 20; // pixels that are compared, once they are converted
 const SETTINGS: [Setting; 5] = [
     Setting { curve: 3, width: 12, ei: 800 },
     Setting { curve: 3, width: 16, ei: 800 },
@@ -32,9 +32,9 @@ fn main() {
     println!("OpenColorIO: {}.\n", Ocio::version());
     print_times("pixel to ACES", &contests, |contest| &contest.to_aces);
     print_times("ACES to pixel", &contests, |contest| &contest.to_camera);
-    let shares: Vec<Shares> = contests.iter().map(Contest::shares).collect();
-    print_shares(&contests, &shares);
-    print_distances(&contests, &shares);
+    let compared: Vec<Comparison> = contests.iter().map(Contest::compared).collect();
+    print_shares(&contests, &compared);
+    print_distances(&contests, &compared);
     println!(
         "Plain f64 reads and writes the same records with the same checks, but its way back gives the nearest codes and refuses nothing;"
     );
@@ -54,24 +54,25 @@ fn print_times(name: &str, contests: &[Contest], of: impl Fn(&Contest) -> &Times
     println!();
 }
 
-fn print_shares(contests: &[Contest], shares: &[Shares]) {
+fn print_shares(contests: &[Contest], compared: &[Comparison]) {
     println!("Pixels that come back a code off, of {} a setting:\n", COUNTED);
     println!("| setting                   | Ropeinstant | plain f64 | through half | OpenColorIO, float32 | through half |");
     println!("|---------------------------|------------:|----------:|-------------:|---------------------:|-------------:|");
-    for (contest, shares) in contests.iter().zip(shares) {
-        let off = shares.off.map(|share| share.map_or("-".to_string(), percent));
+    for (contest, with) in contests.iter().zip(compared) {
+        let off = with.off.map(|share| share.map_or("-".to_string(), percent));
         println!("| {:<25} | {:>11} | {:>9} | {:>12} | {:>20} | {:>12} |", title(&contest.setting), off[0], off[1], off[2], off[3], off[4]);
     }
-    let inexact: Vec<String> = shares.iter().map(|shares| percent(shares.inexact)).collect();
-    println!("\nPixels whose ACES numbers by plain f64 are not Ropeinstant's, in the same order: {}.\n", inexact.join(", "));
+    let differing: Vec<String> = compared.iter().map(|with| percent(with.differing)).collect();
+    println!("\nPixels whose ACES numbers by plain f64 are not Ropeinstant's, in the same order: {}.\n", differing.join(", "));
 }
 
-fn print_distances(contests: &[Contest], shares: &[Shares]) {
-    println!("Units from Ropeinstant's ACES numbers, which are within 9/8 of the exact curve and matrix: the mean, and the largest:\n");
+fn print_distances(contests: &[Contest], compared: &[Comparison]) {
+    println!("How far ACES numbers are from Ropeinstant's, in units: the mean, and the largest.");
+    println!("Ropeinstant's are within 9/8 of a unit of what the exact curve and matrix give.\n");
     println!("| setting                   |       plain f64 |  OpenColorIO, float32 |        through half |");
     println!("|---------------------------|----------------:|----------------------:|--------------------:|");
-    for (contest, shares) in contests.iter().zip(shares) {
-        let [plain, ocio, half] = [0, 1, 2].map(|k| shares.distances[k].as_ref().map_or("-".to_string(), units));
+    for (contest, with) in contests.iter().zip(compared) {
+        let [plain, ocio, half] = [0, 1, 2].map(|k| with.distances[k].as_ref().map_or("-".to_string(), units));
         println!("| {:<25} | {:>15} | {:>21} | {:>19} |", title(&contest.setting), plain, ocio, half);
     }
     println!();

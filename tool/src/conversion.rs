@@ -1,4 +1,5 @@
-//! The conversions: the one table of their names, the kinds that each reads and writes, its function of the library and its refusals.
+//! The conversions: the one table of their names, the kinds that each reads and writes, its function of the library, what it
+//! promises and its refusals.
 use crate::kinds::{Kind, ACES, PIXEL, SCENE};
 use crate::library::{aces_to_pixel, pixel_to_aces, pixel_to_scene, scene_to_pixel, Answer};
 
@@ -18,8 +19,8 @@ pub const TO_ACES: Conversion = Conversion {
     name: "to-aces",
     about: "Converts pixel records to ACES records",
     promise: "\
-Each ACES number is within 9/8 of a unit of what the exact curve and matrix
-give: the matrix row of the three scene numbers, rounded once.
+Each ACES number is the matrix row of the three scene numbers, rounded once. It
+is within 9/8 of a unit of what the exact curve and matrix give.
 ",
     from: &PIXEL,
     to: &ACES,
@@ -43,8 +44,8 @@ pub const TO_SCENE: Conversion = Conversion {
     name: "to-scene",
     about: "Converts pixel records to scene records",
     promise: "\
-Each scene number is the nearest whole number of units to the exact curve, so
-within 51/100 of a unit of it.
+Each scene number is within 51/100 of a unit of the exact curve, and is the
+nearest whole number of units.
 ",
     from: &PIXEL,
     to: &SCENE,

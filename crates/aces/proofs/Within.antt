@@ -10,6 +10,7 @@ use native.Mathlib.Omega.{arith}
 use lib.Dec.{lit<}
 use lib.IntN.{ℤ, pos, negsuc, natAbs, _+ℤ_, _*ℤ_}
 use Rattle.whole.specs.Parts.{up, dn}
+use Rattle.whole.proofs.Weight.{weight}
 use Rattle.whole.proofs.Reflect.{at, add, mul, dif}
 use Rattle.whole.proofs.Floor.{half-bounds}
 use Rattle.whole.proofs.Tidy.{tidy}
@@ -18,7 +19,7 @@ use Rattle.rules.specs.Exact.{Scale, VersusExact}
 use Rattle.rules.specs.Decoding.{unit, tolerance}
 use Rattle.rules.specs.declared.Setting.{Setting}
 use Rattle.rules.specs.Setting.{ValidForAces}
-use Rattle.rules.proofs.Bounds.{RowRoom, row-room}
+use Rattle.rules.proofs.Bounds.{Room, RowRoom, row-room}
 use Rattle.rules.specs.Matrix.{Matrix, matrixOf, entry, acesNumber}
 use Rattle.rules.specs.ExactRow.{acesTolerance, Side, VersusRow, WithinRow}
 use Rattle.decode.proofs.Close.{Close}
@@ -78,8 +79,8 @@ gained-three : (N D h₀ h₁ h₂ l₀ l₁ l₂ p₀ p₁ p₂ m₀ m₁ m₂ 
     → h₀ + h₁ + h₂ + D * S⁻ ≡ l₀ + l₁ + l₂ + D * S⁺ + N * (w₀ + w₁ + w₂)
 gained-three N D h₀ h₁ h₂ l₀ l₁ l₂ p₀ p₁ p₂ m₀ m₁ m₂ w₀ w₁ w₂ S⁺ S⁻ e₀ e₁ e₂ e = omega (arith, ap (λ (n : ℕ). D * n) e)
 
--- with the weight W, and S at most a half from its rounding A
-bounded : (N D P Q s W h l S⁺ S⁻ A⁺ A⁻ : ℕ) → 2 * N * W * Q + D * s * Q < 2 * D * P * s → h + D * S⁻ ≡ l + D * S⁺ + N * W → 2 * S⁺ + A⁻ * (2 * s) ≤ A⁺ * (2 * s) + s + 2 * S⁻
+-- with W for their weight, and S at most a half from its rounding A
+bounded : (N D P Q s W h l S⁺ S⁻ A⁺ A⁻ : ℕ) → Room N D P Q W s → h + D * S⁻ ≡ l + D * S⁺ + N * W → 2 * S⁺ + A⁻ * (2 * s) ≤ A⁺ * (2 * s) + s + 2 * S⁻
     → h * (Q * 2 ^ 24) + A⁻ * Q * (D * 2 ^ 24 * s) < (A⁺ * Q + P) * (D * 2 ^ 24 * s) + l * (Q * 2 ^ 24)
 bounded N D P Q s W h l S⁺ S⁻ A⁺ A⁻ w e r = omega (arith, mul-le-mul-left (Q * D) r, ap (λ (n : ℕ). Q * n) e)
 
@@ -103,7 +104,7 @@ factor-positive zero b h = absurd (omega arith)
 factor-positive (suc a) b h = omega arith
 
 -- ---- a row
-module _ (N D P Q s : ℕ) (c₀ c₁ c₂ : ℤ) (room : 2 * N * (natAbs c₀ + natAbs c₁ + natAbs c₂) * Q + D * s * Q < 2 * D * P * s) (x y z : ℤ) where
+module _ (N D P Q s : ℕ) (c₀ c₁ c₂ : ℤ) (room : Room N D P Q (weight c₀ c₁ c₂) s) (x y z : ℤ) where
   abbrev S : ℤ
   S = c₀ *ℤ x +ℤ c₁ *ℤ y +ℤ c₂ *ℤ z
 
@@ -124,7 +125,7 @@ module _ (N D P Q s : ℕ) (c₀ c₁ c₂ : ℤ) (room : 2 * N * (natAbs c₀ +
 
   sum-gained : (b : Bool)
       → high b (product N D b c₀ x) + high b (product N D b c₁ y) + high b (product N D b c₂ z) + D * low b (integer S)
-      ≡ low b (product N D b c₀ x) + low b (product N D b c₁ y) + low b (product N D b c₂ z) + D * high b (integer S) + N * (natAbs c₀ + natAbs c₁ + natAbs c₂)
+      ≡ low b (product N D b c₀ x) + low b (product N D b c₁ y) + low b (product N D b c₂ z) + D * high b (integer S) + N * weight c₀ c₁ c₂
   sum-gained b =
       gained-three N D (high b (product N D b c₀ x)) (high b (product N D b c₁ y)) (high b (product N D b c₂ z)) (low b (product N D b c₀ x)) (low b (product N D b c₁ y)) (low b (product N D b c₂ z))
       (high b (integer c₀ *ℚ integer x)) (high b (integer c₁ *ℚ integer y)) (high b (integer c₂ *ℚ integer z))
@@ -138,10 +139,10 @@ module _ (N D P Q s : ℕ) (c₀ c₁ c₂ : ℤ) (room : 2 * N * (natAbs c₀ +
   row : (b : Bool) → Versus (order b) ((product N D b c₀ x +ℚ product N D b c₁ y +ℚ product N D b c₂ z) /ℚ whole s) (moved b P Q A)
   row b =
       shaped P Q s (D * 2 ^ 24) b (product N D b c₀ x) (product N D b c₁ y) (product N D b c₂ z) A (product-over N D b c₀ x) (product-over N D b c₁ y) (product-over N D b c₂ z) over-positive
-      (bounded N D P Q s (natAbs c₀ + natAbs c₁ + natAbs c₂) _ _ (high b (integer S)) (low b (integer S)) (high b (integer A)) (low b (integer A)) room (sum-gained b) (rounded b))
+      (bounded N D P Q s (weight c₀ c₁ c₂) _ _ (high b (integer S)) (low b (integer S)) (high b (integer A)) (low b (integer A)) room (sum-gained b) (rounded b))
 
 -- THE RULE, where the row has room
-module _ (N D P Q : ℕ) (m : Matrix) (i : ℕ) (room : RowRoom (ratio N D) (ratio P Q) m i) (k : Scale) (r g b : ℕ) (x y z : ℤ)
+module _ (N D P Q : ℕ) (m : Matrix) (i : ℕ) (room : RowRoom N D P Q m i) (k : Scale) (r g b : ℕ) (x y z : ℤ)
     (cx : Close (ratio N D) k r x) (cy : Close (ratio N D) k g y) (cz : Close (ratio N D) k b z) where
   versus : (o : Bool) → VersusRow (order o) m i k r g b (moved o P Q (acesNumber m i x y z))
   unfolding acesNumber

@@ -2,9 +2,10 @@
 -- Assumes nothing.
 use mathlib.Core.Path.{_≡_}
 use mathlib.Core.List.{List}
-use Prim.Native.Nat.{ℕ, _+_, _*_}
+use Prim.Native.Nat.{ℕ, _*_}
 use native.Mathlib.Omega.{arith}
-use lib.IntN.{ℤ, pos, natAbs, _+ℤ_, _*ℤ_}
+use lib.IntN.{ℤ, pos, _+ℤ_, _*ℤ_}
+use Rattle.whole.proofs.Weight as whole
 use Rattle.whole.proofs.Reflect.{at, add, mul, eqZ}
 use Rattle.whole.proofs.Near.{Near, near-add, near-mul, near-more}
 use Rattle.rules.specs.Matrix.{entry}
@@ -22,9 +23,8 @@ three x y z = record { red = x; green = y; blue = z }
 abbrev pub dot : Three → Three → ℤ
 dot n v = n .red *ℤ v .red +ℤ n .green *ℤ v .green +ℤ n .blue *ℤ v .blue
 
--- the sum without signs
 abbrev pub weight : Three → ℕ
-weight n = natAbs (n .red) + natAbs (n .green) + natAbs (n .blue)
+weight n = whole.weight (n .red) (n .green) (n .blue)
 
 -- each number is at most k from the other's
 pub record Near3 (u v : Three) (k : ℕ) : Type 0 where

@@ -2,14 +2,12 @@
 -- Assumes nothing.
 use mathlib.Core.Bool.{Bool, true, false}
 use mathlib.Core.List.{List}
-use mathlib.Core.Path.{_≡_, refl, _∙_}
-use Prim.Native.Nat.{ℕ, _+_, _-_, _*_, _^_, _≤_, _<_}
+use mathlib.Core.Path.{_≡_, refl}
+use Prim.Native.Nat.{ℕ, _-_, _*_, _^_, _<_}
 use native.Mathlib.Nat.{sub-zero, le-of-lt, mul-le-mul-left, mul-lt-mul-of-pos-right}
 use native.Mathlib.Omega.{arith}
 use lib.Dec.{T}
-use lib.IntN.{ℤ, subℕ}
-use lib.Signed.{shrZ}
-use Rattle.whole.specs.Parts.{up, dn}
+use lib.IntN.{ℤ}
 use Rattle.whole.proofs.Floor.{half-bounds}
 use Rattle.whole.proofs.Tidy.{tidy}
 use Rattle.rules.specs.declared.Setting.{Setting}
@@ -30,7 +28,7 @@ pub record Close (e : Fraction) (k : Scale) (i : ℕ) (y : ℤ) : Type 0 where
   pub over : VersusExact Greater k (whole i) ((integer y +ℚ e) *ℚ unit)
 
 -- a fraction's nearest whole number is at most a half away, so less than any N / D above a half
-module _ (N D : ℕ) (half : AboveHalf (ratio N D)) where
+module _ (N D : ℕ) (half : AboveHalf N D) where
   toe-close : (t : Fraction) → 0 < t .over → (y : ℤ) → y ≡ nearest (t *ℚ whole (2 ^ 24))
       → Versus Less ((integer y -ℚ ratio N D) *ℚ unit) t × Versus Greater ((integer y +ℚ ratio N D) *ℚ unit) t
   toe-close t h y e =

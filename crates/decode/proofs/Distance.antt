@@ -4,9 +4,9 @@ use mathlib.Core.Path.{_≡_, refl, sym, ap, _∙_, subst, subst₂}
 use mathlib.Core.Bool.{Bool, true, false}
 use mathlib.Core.List.{List}
 use Prim.Native.Nat.{ℕ, suc, _+_, _-_, _*_, _^_, _≤_, _<_}
-use native.Mathlib.Nat.{le-of-lt, le-of-suc-le-suc, lt-of-le-of-lt, mul-pos, mul-le-mul-right, mul-lt-mul-of-pos-right, lt-of-mul-lt-mul-right, one-le-pow}
+use native.Mathlib.Nat.{le-of-lt, le-of-suc-le-suc, lt-of-le-of-lt, lt-div-mul-add, mul-pos, mul-le-mul-right, mul-lt-mul-of-pos-right, lt-of-mul-lt-mul-right, one-le-pow}
 use native.Mathlib.Omega.{arith}
-use lib.Dec.{T, lit<, lit≤}
+use lib.Dec.{T, lit<}
 use lib.IntN.{ℤ, natAbs}
 use lib.Signed.{_<ℤ_}
 use Rattle.whole.specs.Parts.{up, dn}
@@ -22,6 +22,7 @@ use Rattle.rules.specs.Exact.{Scale, signal, powerFor, VersusPart}
 use Rattle.rules.specs.Decoding.{unit, tolerance, DecodesPart, DecodesWithin, DecodesCode}
 use Rattle.rules.proofs.Values.{less}
 use Rattle.rules.proofs.Codes.{code-passed, step-rises}
+use Rattle.rules.proofs.Bounds.{apartBy, allowedApart}
 use Rattle.decode.specs.Decoded.{offset, raw, decoded}
 use Rattle.decode.proofs.Tests.{Source, Tested, kappa, plus-less, minus-less}
 use Rattle.decode.proofs.Compare.{wanted-is, over-pos, power-over-pos, exponent-over-pos}
@@ -55,6 +56,10 @@ apart : (N D b : ℕ) → 2 * N ≤ suc b * D → (u d u′ d′ : ℕ)
     → u + d′ ≤ u′ + d + b
 apart N D b small u d u′ d′ h = le-of-suc-le-suc (lt-of-mul-lt-mul-right D (omega arith))
 
+-- twice N / D is at most one more than that
+twice : (N D : ℕ) → 0 < D → 2 * N ≤ suc (apartBy N D) * D
+twice N D pD = omega (arith, lt-div-mul-add {a = 2 * N - 1} {b = D} pD)
+
 true-false : {A : Type 0} → true ≡ false → A
 true-false e = absurd (subst T e tt)
 
@@ -62,8 +67,8 @@ power-of : (R : ℕ → ℕ → Type 0) (c : Curve) (t x : Fraction) (i : Bool) 
 power-of R c t x true e v = true-false e
 power-of R c t x false e (VersusPart.power v) = v
 
--- ---- numbers less than N / D from the exact value are at most b apart, where 2 * N / D is at most b + 1
-module _ (N D b : ℕ) (pD : 0 < D) (small : 2 * N ≤ suc b * D) {k : Scale} {g : ℕ} {t : List ℕ} {s : Source} (ok : Tested k g t s) (n : ℕ) where
+-- ---- numbers less than N / D from the exact value
+module _ (N D : ℕ) (pD : 0 < D) {k : Scale} {g : ℕ} {t : List ℕ} {s : Source} (ok : Tested k g t s) (n : ℕ) where
   abbrev c : Curve
   c = k .curve
 
@@ -73,10 +78,14 @@ module _ (N D b : ℕ) (pD : 0 < D) (small : 2 * N ≤ suc b * D) {k : Scale} {g
   abbrev hi : ℤ → Fraction
   hi y = (integer y +ℚ ratio N D) *ℚ unit
 
+  -- how far apart they are at most
+  abbrev b : ℕ
+  b = apartBy N D
+
   no-more : (y y′ : ℤ) → VersusPower Less (powerFor c (lo y)) (base c) (exponent c (signal k (whole n)))
       → VersusPower Greater (powerFor c (hi y′)) (base c) (exponent c (signal k (whole n))) → up y + dn y′ ≤ up y′ + dn y + b
   no-more y y′ l g =
-      apart N D b small (up y) (dn y) (up y′) (dn y′)
+      apart N D b (twice N D pD) (up y) (dn y) (up y′) (dn y′)
       (cut (kappa k) (lo y .plus) (lo y .minus) (hi y′ .plus) (hi y′ .minus) (lo y .over * plus-less k) (lo y .over * minus-less k)
       (subst₂ (λ (v w : ℕ). v < w) (wanted-is k (lo y)) (wanted-is k (hi y′))
       (lt-of-mul-lt-mul-right (powerFor c (lo y) .over)
@@ -101,9 +110,9 @@ module _ (N D b : ℕ) (pD : 0 < D) (small : 2 * N ≤ suc b * D) {k : Scale} {g
 
 -- ---- of a valid setting, for any numbers that the rules allow
 module _ (s : Setting) (v : Valid s) where
-  -- they are at most one unit from the number that is computed
-  pub decodes-near : (n : ℕ) → codeCheck s n ≡ Passed → (y : ℤ) → DecodesCode s n y → Near y (decoded s n) 1
-  decodes-near n e y p = numbers-near (tolerance .plus) (tolerance .over) 1 (lit< tt) (lit≤ tt) (passed s v) (stepOf s n) y (decoded s n) p (decoding s v n e)
+  -- how far they are at most from the number that is computed
+  pub decodes-near : (n : ℕ) → codeCheck s n ≡ Passed → (y : ℤ) → DecodesCode s n y → Near y (decoded s n) allowedApart
+  decodes-near n e y p = numbers-near (tolerance .plus) (tolerance .over) (lit< tt) (passed s v) (stepOf s n) y (decoded s n) p (decoding s v n e)
 
   -- they rise strictly with the code
   pub decodes-rises : (m n : ℕ) → codeCheck s m ≡ Passed → codeCheck s n ≡ Passed → m < n → (x y : ℤ) → DecodesCode s m x → DecodesCode s n y → x <ℤ y

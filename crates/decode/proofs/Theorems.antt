@@ -2,7 +2,7 @@
 -- with the code.
 -- Assumes nothing.
 use mathlib.Core.Path.{_≡_, subst}
-use Prim.Native.Nat.{ℕ, zero, suc, _+_, _-_, _≤_, _<_}
+use Prim.Native.Nat.{ℕ, zero, suc, _+_, _-_, _*_, _≤_, _<_}
 use native.Mathlib.Omega.{arith}
 use lib.Dec.{ltb, ltb→lt, lit<}
 use lib.IntN.{ℤ, subℕ}
@@ -15,6 +15,7 @@ use Rattle.rules.specs.Exact.{scaleOf}
 use Rattle.rules.specs.Decoding.{tolerance, Decodes, DecodesCode}
 use Rattle.rules.proofs.Settings.{for-valid}
 use Rattle.rules.proofs.Codes.{code-passed, step-rises}
+use Rattle.rules.proofs.Bounds.{allowedApart}
 use Rattle.curve_table.specs.Table.{tableOf}
 use Rattle.decode.specs.Decoded.{offset, raw, decodedAt, decoded}
 use Rattle.decode.proofs.Near.{room}
@@ -53,14 +54,14 @@ module _ (s : Setting) (v : Valid s) where
       bound : (t : ℕ) → i < j → j ≤ t → i + suc (j - suc i) ≤ t
       bound t h g = omega arith
 
-  -- by the figure of the curve, which is above 2: so they rise, and so do any numbers that are at most 1 off
-  pub gap-large : 2 < gapOf s
-  gap-large = ltb→lt 2 (gapOf s) (for-valid (λ c w e. ltb 2 (gapOf (record { curve = c; width = w; ei = e }))) tt s v)
+  -- by the figure of the curve, which is large enough that any numbers that the rules allow rise too
+  pub gap-large : 2 * allowedApart < gapOf s
+  gap-large = ltb→lt (2 * allowedApart) (gapOf s) (for-valid (λ c w e. ltb (2 * allowedApart) (gapOf (record { curve = c; width = w; ei = e }))) tt s v)
 
   pub raw-rises : (i j : ℕ) → i < j → j ≤ lastOf s → raw s i < raw s j
   raw-rises i j h g = above (gapOf s) (raw s i) (raw s j) gap-large (raw-apart i j h g)
     where
-      above : (g a b : ℕ) → 2 < g → a + g ≤ b → a < b
+      above : (g a b : ℕ) → 2 * allowedApart < g → a + g ≤ b → a < b
       above g a b p h = omega arith
 
   -- "For each setting the numbers rise strictly with the code."

@@ -3,7 +3,7 @@
 -- Assumes nothing.
 use mathlib.Core.Path.{_≡_}
 use Prim.Native.Nat.{ℕ}
-use lib.Dec.{lit<, lit≤}
+use lib.Dec.{lit<}
 use lib.IntN.{ℤ}
 use Rattle.whole.proofs.Near.{near-same}
 use Rattle.rules.specs.declared.Setting.{Setting}
@@ -32,7 +32,7 @@ decoded-nearest s v n e =
 -- and no other number is
 pub only-nearest : (s : Setting) → Valid s → (n : ℕ) → codeCheck s n ≡ Passed → (y : ℤ) → Nearest (scaleOf s) (stepOf s n) y → y ≡ decoded s n
 only-nearest s v n e y p =
-    near-same (numbers-near (half .plus) (half .over) 0 (lit< tt) (lit≤ tt) (passed s v) (stepOf s n) y (decoded s n) p (decoded-nearest s v n e))
+    near-same (numbers-near (half .plus) (half .over) (lit< tt) (passed s v) (stepOf s n) y (decoded s n) p (decoded-nearest s v n e))
 
 -- so whoever computes nearest numbers computes these
 pub nearest-numbers : (number : Setting → ℕ → ℤ) → NearestNumbers number → (s : Setting) → Valid s → (n : ℕ) → codeCheck s n ≡ Passed → number s n ≡ decoded s n

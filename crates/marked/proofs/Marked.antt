@@ -38,7 +38,7 @@ use Rattle.encode.proofs.Theorems.{encode-near}
 use Rattle.aces_inverse.specs.Inverse.{candidate}
 use Rattle.way_back.specs.Candidate.{codeFor, candidatePixel}
 use Rattle.way_back.proofs.Only.{GivesBy, exact-enough, only-candidate-by}
-use Rattle.marked.specs.Marked.{Marked, setting, Allowed, limit, nextTriple}
+use Rattle.marked.specs.Marked.{Marked, setting, Allowed, number4095, limit, nextTriple}
 use Rattle.rules.specs.Pixels.{pixel, acesOf}
 
 abbrev curve4 : Scale
@@ -48,24 +48,37 @@ curve4 = record { curve = logC4; last = topOf 12 }
 abbrev exponent-4095 : Fraction
 exponent-4095 = exponent logC4 (signal curve4 (whole 4095))
 
-abbrev number-4095 : ℕ
-number-4095 = 7881936077
-
 -- a number less the tolerance is below the exact value, and with it above
-below-4095 : (y : ℤ) → VersusPower Less (powerFor logC4 ((integer y -ℚ tolerance) *ℚ unit)) 2 exponent-4095 → up y ≤ number-4095
+below-4095 : (y : ℤ) → VersusPower Less (powerFor logC4 ((integer y -ℚ tolerance) *ℚ unit)) 2 exponent-4095 → up y ≤ number4095
 below-4095 y h =
     omega (arith, one-zero y, simp tidy at (values.at-whole values.less 2 (lit< tt) (powerFor logC4 ((integer y -ℚ tolerance) *ℚ unit)) exponent-4095 20 (lit< tt) (lit< tt) refl h))
 
-above-4095 : (y : ℤ) → VersusPower Greater (powerFor logC4 ((integer y +ℚ tolerance) *ℚ unit)) 2 exponent-4095 → number-4095 ≤ up y
+above-4095 : (y : ℤ) → VersusPower Greater (powerFor logC4 ((integer y +ℚ tolerance) *ℚ unit)) 2 exponent-4095 → number4095 ≤ up y
 above-4095 y h =
     omega (arith, one-zero y, simp tidy at (values.at-whole (values.flip values.less) 2 (lit< tt) (powerFor logC4 ((integer y +ℚ tolerance) *ℚ unit)) exponent-4095 20 (lit< tt) (lit< tt) refl h))
 
-no-other : (y : ℤ) → up y ≤ number-4095 → number-4095 ≤ up y → y ≡ pos number-4095
+no-other : (y : ℤ) → up y ≤ number4095 → number4095 ≤ up y → y ≡ pos number4095
 no-other (pos n) h g = ap pos (le-antisymm h g)
 no-other (negsuc n) h g = absurd (omega arith)
 
-code-4095-units : (y : ℤ) → Decodes curve4 4095 y → y ≡ pos number-4095
-code-4095-units y (DecodesPart.power (VersusPart.power l) (VersusPart.power h)) = no-other y (below-4095 y l) (above-4095 y h)
+only-4095 : (y : ℤ) → Decodes curve4 4095 y → y ≡ pos number4095
+only-4095 y (DecodesPart.power (VersusPart.power l) (VersusPart.power h)) = no-other y (below-4095 y l) (above-4095 y h)
+
+-- and it is allowed, since the decoded number is
+abbrev s4 : Setting
+s4 = setting 4 12 0
+
+valid-4 : Valid s4
+unfolding settingCheck
+valid-4 = refl
+
+passes-4095 : codeCheck s4 4095 ≡ Passed
+unfolding codesOf
+passes-4095 = refl
+
+allowed-4095 : Decodes curve4 4095 (pos number4095)
+unfolding codesOf
+allowed-4095 = subst (Decodes curve4 4095) (only-4095 (decoded s4 4095) (decoding s4 valid-4 4095 passes-4095)) (decoding s4 valid-4 4095 passes-4095)
 
 code-4095 : VersusPart (λ m n. m ≡ n) logC4 (signal curve4 (whole 4095)) (ratio 2349 5) false
 code-4095 = VersusPart.power (values.of-whole values.equal 2 (lit< tt) (powerFor logC4 (ratio 2349 5)) exponent-4095 20 (lit< tt) (lit< tt) refl refl)
@@ -162,7 +175,7 @@ unfolding settingCheck acesCheck codesOf sceneCheck floatCheck unitsOf valueOf a
 marked =
     record {
       code-4095 = code-4095;
-      code-4095-units = code-4095-units;
+      code-4095-units = λ y. (only-4095 y, λ e. subst (Decodes curve4 4095) (sym e) allowed-4095);
       code-0 = toe-number 0;
       code-100 = toe-number 100;
       pixel-100 = λ x y h g. rw (toe-number 100 x h, toe-number 0 y g) (record { red-is = refl; green-is = refl; blue-is = refl });

@@ -3,7 +3,8 @@
 use mathlib.Core.Bool.{true, false}
 use mathlib.Core.Path.{_≡_}
 use mathlib.Core.List.{List}
-use Prim.Native.Nat.{ℕ, _+_, _^_, _≤_}
+use mathlib.Core.Logic.{_↔_}
+use Prim.Native.Nat.{ℕ, _+_, _^_}
 use lib.Ieee.{fin}
 use lib.IntN.{ℤ, pos}
 use lib.ListN.{length}
@@ -34,6 +35,10 @@ setting curve width ei = record { curve = curve; width = width; ei = ei }
 abbrev pub Allowed : Setting → (number : ℕ → ℤ) → Type 0
 Allowed s number = (n : ℕ) → codeCheck s n ≡ Passed → DecodesCode s n (number n)
 
+-- what code 4095 of curve 4 is at width 12
+abbrev pub number4095 : ℕ
+number4095 = 7881936077
+
 -- the highest scene number to encode
 abbrev pub limit : ℕ
 limit = 2 ^ 40
@@ -46,7 +51,7 @@ pub record Marked : Type 0 where
   -- "curve 4, width 12, code 4095 is exactly 2349/5,
   pub code-4095 : VersusExact (λ m n. m ≡ n) (scaleOf (setting 4 12 0)) (whole (stepOf (setting 4 12 0) 4095)) (ratio 2349 5)
   -- .." and 02, item 4: "Case 4095 becomes 7,881,936,077 alone."
-  pub code-4095-units : (y : ℤ) → DecodesCode (setting 4 12 0) 4095 y → y ≡ pos 7881936077
+  pub code-4095-units : (y : ℤ) → DecodesCode (setting 4 12 0) 4095 y ↔ (y ≡ pos number4095)
   -- "Curve 3, EI 800, width 12: code 0 is -290,085;
   pub code-0 : (y : ℤ) → DecodesCode (setting 3 12 800) 0 y → y ≡ minus 290085
   -- code 100 is -213,758;

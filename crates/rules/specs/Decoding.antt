@@ -16,7 +16,7 @@ abbrev pub unit : Fraction
 unit = ratio 1 (2 ^ 24)
 
 -- 02, item 4: "The power part must lie within 51/100 of a unit of the exact value instead of less than one." How far a decoded number may be
--- off, in units. As in 01 it is less than that, which is within.
+-- off, in units. Stated as less than it, as in 01; that implies at most.
 abbrev pub tolerance : Fraction
 tolerance = ratio 51 100
 

@@ -9,7 +9,7 @@ use Rattle.rules.specs.Decoding.{unit}
 use Rattle.rules.specs.Matrix.{Matrix, entry}
 
 -- 02, item 4: "ACES numbers then lie within 9/8 of a unit of the exact curve and matrix, and that figure takes the place of two units
--- wherever the archive promise quotes it." How far an ACES number may be off, in units. As in 01 it is less than that, which is within.
+-- wherever the archive promise quotes it." How far an ACES number may be off, in units. Stated as less than it, as in 01; that implies at most.
 abbrev pub acesTolerance : Fraction
 acesTolerance = ratio 9 8
 

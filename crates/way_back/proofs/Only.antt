@@ -18,6 +18,7 @@ use Rattle.rules.specs.Matrix.{matrixOf}
 use Rattle.rules.specs.Choice.{choose}
 use Rattle.rules.specs.WayBack.{within3, tried, pixelWith, foundCheck}
 use Rattle.rules.proofs.Settings.{for-valid, aces-valid, refused-never}
+use Rattle.rules.proofs.Bounds.{allowedApart}
 use Rattle.rules.proofs.Search as search
 use Rattle.decode.specs.Decoded.{decoded}
 use Rattle.decode.specs.Gap.{gapOf}
@@ -33,13 +34,14 @@ use Rattle.way_back.proofs.Reach.{given-reached, reached-given}
 use Rattle.rules.specs.Pixels.{IsPixel}
 use Rattle.aces.specs.OfPixel.{pixelAces}
 
--- a distance e at which numbers still tell the pixel: the inverse leads to within 2 e + 1 units of the number of a code, which is at most one
--- unit from its decoded number, and less than half the gap of the curve from it is nearer than to any other
+-- a distance e at which numbers still tell the pixel: the inverse leads to within 2 e + 1 units of the number of a code, which is as far from
+-- its decoded number as the rules allow, and less than half the gap of the curve from it is nearer than to any other
 abbrev pub NearEnough : (e : ℕ) → Setting → Type 0
-NearEnough e s = (2 * (2 * e + 1 + 1) < gapOf s) × (e ≤ farthest)
+NearEnough e s = (2 * (2 * e + 1 + allowedApart) < gapOf s) × (e ≤ farthest)
 
 pub exact-enough : (s : Setting) → Valid s → NearEnough 0 s
-exact-enough s v = (ltb→lt 4 (gapOf s) (for-valid (λ c w i. ltb 4 (gapOf (record { curve = c; width = w; ei = i }))) tt s v), lit≤ tt)
+exact-enough s v =
+    (ltb→lt (2 * (1 + allowedApart)) (gapOf s) (for-valid (λ c w i. ltb (2 * (1 + allowedApart)) (gapOf (record { curve = c; width = w; ei = i }))) tt s v), lit≤ tt)
 
 -- ---- by any numbers that the rules allow for the codes of the setting
 abbrev pub GivesBy : (e : ℕ) (number : ℕ → ℤ) → Setting → Triple → Pixel → Type 0
@@ -63,7 +65,7 @@ module _ (s : Setting) (v : ValidForAces s) (number : ℕ → ℤ) (allowed : (n
 
   code-by : (i n : ℕ) → codeCheck s n ≡ Passed → Near (candidate s i (a .red .0) (a .green .0) (a .blue .0)) (number n) (2 * e + 1) → codeFor s i a ≡ n
   code-by i n h c =
-      encode-near s (aces-valid s v) (2 * e + 1 + 1) (t .0) (candidate s i (a .red .0) (a .green .0) (a .blue .0)) n h (near-join c (decodes-near s (aces-valid s v) n h (number n) (allowed n h)))
+      encode-near s (aces-valid s v) (2 * e + 1 + allowedApart) (t .0) (candidate s i (a .red .0) (a .green .0) (a .blue .0)) n h (near-join c (decodes-near s (aces-valid s v) n h (number n) (allowed n h)))
 
   -- THE ONLY PIXEL: what gives the numbers is the candidate
   pub only-candidate-by : q ≡ candidatePixel s a

@@ -6,5 +6,6 @@ pub mod Tidy
 pub mod Sizes
 pub mod Words
 pub mod Near
+pub mod Weight
 pub mod Tests
 mod Signs

@@ -4,6 +4,7 @@ use mathlib.Core.Path.{ap₂}
 use Prim.Native.Nat.{ℕ, _+_, _-_, _*_, _^_}
 use native.Mathlib.Omega.{arith}
 use borrow.Author.Needs.{needs}
+use Rattle.decode.specs.Decoded.{offset}
 use Rattle.decode.proofs.Quotient.{quotient-small}
 use Rattle.decode.proofs.decoder.bias.Statement.{statement}
 use Rattle.decode.proofs.decoder.bias.Tie as tie
@@ -20,7 +21,7 @@ sub-result c =
 
 -- with the offset and a half, in halves of a unit
 returns : tie.Need-returns
-returns c = ap₂ (λ (x y : ℕ). 2097153 * 2 ^ 26 + x - y) (c .before .lower .ensures) (c .lower2 .ensures)
+returns c = ap₂ (λ (x y : ℕ). (2 * offset + 1) * 2 ^ 26 + x - y) (c .before .lower .ensures) (c .lower2 .ensures)
 
 pub bias-spec : {M : Type 1} → statement M
 bias-spec =

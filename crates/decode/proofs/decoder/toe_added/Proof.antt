@@ -21,5 +21,5 @@ toe-added-spec =
     (λ c. omega (arith, part (c .pre .2) (c .pre .3)))
     (λ c. omega (arith, part (c .pre .1) (c .pre .3)))
     (λ c. omega (arith, part (c .pre .1) (c .pre .3)))
-    (λ c. search needs)
+    (λ c. omega (arith, c .pre .4))
     (λ c. search needs))
