@@ -4,11 +4,12 @@ number, and pixels to ACES: some at random, and those whose three scene numbers 
 number the same way. Hold each scene number to 51/100 of a unit of the exact value, and each ACES number to 9/8 of a unit of the matrix
 row of the exact values. These come from the printed curves with 150 digits (decoded.py); nothing of the project's code or tables is
 used."""
-import random, subprocess, sys, time
+import random, sys, time
 from fractions import Fraction
 from itertools import product
 from math import floor
 
+from aces import drive
 from decoded import SETTINGS, codes_of, exact
 from rules import MATRICES, NUMBERS, PIXEL
 
@@ -21,11 +22,9 @@ FARTHEST, AT_RANDOM = 12, 200  # codes of a side, pixels of a setting
 TOP = 7881936077  # the number of curve 4's top code, whose exact value is 2349/5
 
 
-def drive(driver, conversion, s, pixels):
+def made_of(driver, conversion, s, pixels):
     """the three numbers of each pixel"""
-    data = b"".join(PIXEL.pack(*s, *pixel) for pixel in pixels)
-    out = subprocess.run([driver, "strip", conversion, "/dev/stdin"], input=data, stdout=subprocess.PIPE, check=True).stdout
-    line, made = out.split(b"\n", 1)
+    line, made = drive(driver, "strip", conversion, b"".join(PIXEL.pack(*s, *pixel) for pixel in pixels)).split(b"\n", 1)
     assert line == b"done %d" % len(pixels), (s, line)
     records = list(NUMBERS.iter_unpack(made))
     assert all(r[:3] == s for r in records), s
@@ -34,7 +33,7 @@ def drive(driver, conversion, s, pixels):
 
 def scenes(driver, s, parts):
     """the number of each code, the farthest that one is off in the power part, and how many codes have a second number within the bound"""
-    made = drive(driver, "pixel-to-scene", s, [(n, n, n) for n in parts])
+    made = made_of(driver, "pixel-to-scene", s, [(n, n, n) for n in parts])
     assert all(len(set(ys)) == 1 for ys in made), s
     numbers = {n: ys[0] for n, ys in zip(parts, made)}
     farthest, second = Fraction(0), 0
@@ -80,7 +79,7 @@ def main():
         if s[0] in MATRICES:
             pixels = [*chosen(s, parts, numbers), *(tuple(pick.choices(codes_of(s), k=3)) for _ in range(AT_RANDOM))]
             count += len(pixels)
-            for pixel, triple in zip(pixels, drive(driver, "pixel-to-aces", s, pixels)):
+            for pixel, triple in zip(pixels, made_of(driver, "pixel-to-aces", s, pixels)):
                 off = aces_off(s, parts, pixel, triple)
                 assert off < ACES, (s, pixel, triple, float(off))
                 worst = max(worst, (off, s, pixel))

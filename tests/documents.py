@@ -6,9 +6,9 @@ every open function has to be in PROMISES.md, under an id that has both of its r
 theorem of a file `Theorems`. No edit of a crate stands there twice. Every crate has to be in
 ARCHITECTURE.md. The figures of FORMAT.md have to be those of the code, the bounds in the documents,
 the header and the help those of the rules, and links have to lead somewhere. No line of docs/ but a
-table's row is longer than 100 columns. How names are written is said in PROMISES.md. With the folder of the
-demands and of 01, which are not in the repository, what the tables quote is also compared with
-them, letter for letter."""
+table's row is longer than 100 columns. How names are written is said in PROMISES.md. With the
+folder of the demands and of 01, which are not in the repository, what the tables quote is also
+compared with them, letter for letter."""
 import functools, os, re, sys
 from collections import namedtuple
 from pathlib import Path
@@ -452,8 +452,8 @@ def complaints(sources, texts):
     there = [path for path in sources.declared if path.endswith(".edit")]
     wrong += [f"{path} is not named in {PROMISES}" for path in there if path not in edits]
     wrong += [f"{path}: {name} is not in {PROMISES}" for path, name in sources.theorems if (path, name) not in cited]
-    texts_of = [(path.split("/")[1], (ROOT / path).read_text()) for path in there]
-    wrong += [f"{path} is another edit once more" for path, text in zip(there, texts_of) if texts_of.index(text) != there.index(path)]
+    held = [(path.split("/")[1], (ROOT / path).read_text()) for path in there]
+    wrong += [f"{path} is {there[held.index(edit)]} once more" for path, edit in zip(there, held) if there[held.index(edit)] != path]
     said = re.findall(r"(\d+) must-fail edits", texts[BENCHMARKS])
     if said != [str(len(there))]:
         wrong.append(f"{BENCHMARKS}: there are {len(there)} must-fail edits, not {said}")

@@ -19,7 +19,7 @@ use Rattle.rules.specs.Exact.{Scale, VersusExact}
 use Rattle.rules.specs.Decoding.{unit, tolerance}
 use Rattle.rules.specs.declared.Setting.{Setting}
 use Rattle.rules.specs.Setting.{ValidForAces}
-use Rattle.rules.proofs.Bounds.{Room, RowRoom, row-room}
+use Rattle.rules.proofs.Bounds.{WeightRoom, RowRoom, row-room}
 use Rattle.rules.specs.Matrix.{Matrix, matrixOf, entry, acesNumber}
 use Rattle.rules.specs.ExactRow.{acesTolerance, Side, VersusRow, WithinRow}
 use Rattle.decode.proofs.Close.{Close}
@@ -80,7 +80,7 @@ gained-three : (N D h₀ h₁ h₂ l₀ l₁ l₂ p₀ p₁ p₂ m₀ m₁ m₂ 
 gained-three N D h₀ h₁ h₂ l₀ l₁ l₂ p₀ p₁ p₂ m₀ m₁ m₂ w₀ w₁ w₂ S⁺ S⁻ e₀ e₁ e₂ e = omega (arith, ap (λ (n : ℕ). D * n) e)
 
 -- with W for their weight, and S at most a half from its rounding A
-bounded : (N D P Q s W h l S⁺ S⁻ A⁺ A⁻ : ℕ) → Room N D P Q W s → h + D * S⁻ ≡ l + D * S⁺ + N * W → 2 * S⁺ + A⁻ * (2 * s) ≤ A⁺ * (2 * s) + s + 2 * S⁻
+bounded : (N D P Q s W h l S⁺ S⁻ A⁺ A⁻ : ℕ) → WeightRoom N D P Q W s → h + D * S⁻ ≡ l + D * S⁺ + N * W → 2 * S⁺ + A⁻ * (2 * s) ≤ A⁺ * (2 * s) + s + 2 * S⁻
     → h * (Q * 2 ^ 24) + A⁻ * Q * (D * 2 ^ 24 * s) < (A⁺ * Q + P) * (D * 2 ^ 24 * s) + l * (Q * 2 ^ 24)
 bounded N D P Q s W h l S⁺ S⁻ A⁺ A⁻ w e r = omega (arith, mul-le-mul-left (Q * D) r, ap (λ (n : ℕ). Q * n) e)
 
@@ -104,7 +104,7 @@ factor-positive zero b h = absurd (omega arith)
 factor-positive (suc a) b h = omega arith
 
 -- ---- a row
-module _ (N D P Q s : ℕ) (c₀ c₁ c₂ : ℤ) (room : Room N D P Q (weight c₀ c₁ c₂) s) (x y z : ℤ) where
+module _ (N D P Q s : ℕ) (c₀ c₁ c₂ : ℤ) (room : WeightRoom N D P Q (weight c₀ c₁ c₂) s) (x y z : ℤ) where
   abbrev S : ℤ
   S = c₀ *ℤ x +ℤ c₁ *ℤ y +ℤ c₂ *ℤ z
 

@@ -14,6 +14,7 @@ use Rattle.rules.specs.Exact.{Scale}
 use Rattle.decode.specs.Decoded.{product}
 use Rattle.decode.proofs.Tests.{Source, Tested, first, bias, count, roomTests}
 use Rattle.decode.proofs.Near.{Room, room-by}
+use Rattle.decoded_margins.specs.Half.{half}
 
 -- ---- lists
 
@@ -51,7 +52,7 @@ clear k t =
 
 -- and the bias itself is rounded by less than 1
 abbrev biasTests : Scale → List Bool
-biasTests k = roomTests k 1 2 (bias k - 1) (bias k + 5)
+biasTests k = roomTests k (half .plus) (half .over) (bias k - 1) (bias k + 5)
 
 abbrev pub marginTest : (k : Scale) (t : List ℕ) → Bool
 marginTest k t = both (every (biasTests k)) (clear k t)
@@ -133,6 +134,6 @@ module _ {k : Scale} {g : ℕ} {t : List ℕ} {s : Source} (ok : Tested k g t s)
   biased : T (every (biasTests k))
   biased = both-left (every (biasTests k)) (clear k t) margin
 
-  -- ROOM FOR A HALF: the number less 1/2 is below the exact value, and with it above
-  pub room-for-half : Room k t n 1 2
-  room-for-half = room-by ok n from to 1 2 (lit< tt) (bias k - 1) (bias k + 5) (from-below (product t n) (bias k) at-step) (from-above (product t n) (bias k) at-step) biased
+  -- ROOM FOR A HALF: the number less a half is below the exact value, and with it above
+  pub room-for-half : Room k t n (half .plus) (half .over)
+  room-for-half = room-by ok n from to (half .plus) (half .over) (lit< tt) (bias k - 1) (bias k + 5) (from-below (product t n) (bias k) at-step) (from-above (product t n) (bias k) at-step) biased

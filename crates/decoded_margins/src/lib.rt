@@ -1,2 +1,2 @@
 // No code's product of table entries is near the border between two decoded numbers, computed at every code of every setting (proofs/).
-// No function, and no must-fail edit: an edit would compute all codes again.
+// So there is room for half a unit beside each decoded number (specs/Half.antt). No function.

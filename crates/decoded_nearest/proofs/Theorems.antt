@@ -17,9 +17,10 @@ use Rattle.decode.proofs.Distance.{numbers-near}
 use Rattle.decode.proofs.Right.{within}
 use Rattle.decode.specs.Gap.{gapOf}
 use Rattle.decode.proofs.Settings.{sourceOf, passed}
+use Rattle.decoded_margins.specs.Half.{half}
 use Rattle.decoded_margins.proofs.Margins.{room-for-half}
 use Rattle.decoded_margins.proofs.Settings.{margins}
-use Rattle.decoded_nearest.specs.Nearest.{half, Nearest, NearestNumbers}
+use Rattle.decoded_nearest.specs.Nearest.{Nearest, NearestNumbers}
 
 -- THE DECODED NUMBERS are the nearest
 pub decoded-nearest : NearestNumbers decoded

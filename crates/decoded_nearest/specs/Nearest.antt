@@ -6,13 +6,10 @@ use Prim.Native.Nat.{ℕ, suc}
 use lib.IntN.{ℤ}
 use Rattle.rules.specs.declared.Setting.{Setting}
 use Rattle.rules.specs.declared.Check.the-variants.{Passed}
-use Rattle.rules.specs.Fraction.{Fraction, ratio}
 use Rattle.rules.specs.Setting.{stepOf, codeCheck, Valid}
 use Rattle.rules.specs.Exact.{Scale, scaleOf}
 use Rattle.rules.specs.Decoding.{DecodesWithin}
-
-abbrev pub half : Fraction
-half = ratio 1 2
+use Rattle.decoded_margins.specs.Half.{half}
 
 -- y is the nearest whole number to the exact value at a step
 abbrev pub Nearest : Scale → ℕ → ℤ → Type 0

@@ -34,11 +34,11 @@ allowedApart = apartBy (tolerance .plus) (tolerance .over)
 -- ---- a bound P / Q of an ACES number
 
 -- a row over the scale s whose entries without their signs sum to W: W / s times N / D, and a half, are together less than P / Q
-abbrev pub Room : (N D P Q W s : ℕ) → Type 0
-Room N D P Q W s = 2 * N * W * Q + D * s * Q < 2 * D * P * s
+abbrev pub WeightRoom : (N D P Q W s : ℕ) → Type 0
+WeightRoom N D P Q W s = 2 * N * W * Q + D * s * Q < 2 * D * P * s
 
 abbrev pub RowRoom : (N D P Q : ℕ) → Matrix → (i : ℕ) → Type 0
-RowRoom N D P Q m i = Room N D P Q (weight (entry m i 0) (entry m i 1) (entry m i 2)) (m .scale)
+RowRoom N D P Q m i = WeightRoom N D P Q (weight (entry m i 0) (entry m i 1) (entry m i 2)) (m .scale)
 
 -- with the bounds of the rules
 abbrev RulesRoom : Matrix → (i : ℕ) → Type 0
