@@ -6,8 +6,9 @@
  *
  * A strip is bytes: records of one size, one after the other, with no header; numbers are little endian. Each record begins with its
  * setting: curve (1 byte), width (1 byte), EI (2 bytes). A width is a count of bits, at full range; 140 is the legal range of 12 bits, the
- * codes 256 to 3760. A pixel record has 10 bytes, with three codes of 2 bytes; a scene record and an ACES record have 28, with three signed
- * numbers of 8 bytes in units of 2^-24.
+ * codes 256 to 3760; and width 16 of curve 4 is the 12-bit code times 16, as recorders write it, the multiples of 16 from 0 to 65520. A pixel
+ * record has 10 bytes, with three codes of 2 bytes; a scene record and an ACES record have 28, with three signed numbers of 8 bytes in units
+ * of 2^-24.
  *
  * Curve 3 is LogC3 and curve 4 LogC4. Curve 2 is LogC of SUP 2.x firmware, with widths 10 and 12. Its scene numbers are units of normalised
  * sensor value. It has no ACES numbers, since ARRI publishes no ACES matrix for it: in a conversion to or from ACES one record of curve 2
@@ -52,6 +53,7 @@ enum ropeinstant_refusal {
     ROPEINSTANT_NO_PIXEL = 10,
     ROPEINSTANT_CODE_BELOW_FIRST = 11,
     ROPEINSTANT_NO_MATRIX = 12,
+    ROPEINSTANT_CODE_NOT_DIVISIBLE = 13,
 };
 
 /* A refusal's number in words; "converted" for 0, and "no such refusal" for a number that no function returns. */
@@ -71,19 +73,20 @@ static inline const char *ropeinstant_words(uint32_t number)
     case ROPEINSTANT_NO_PIXEL: return "no pixel of the setting has this ACES triple";
     case ROPEINSTANT_CODE_BELOW_FIRST: return "a code is below the first code of its width";
     case ROPEINSTANT_NO_MATRIX: return "the curve has no ACES matrix";
+    case ROPEINSTANT_CODE_NOT_DIVISIBLE: return "a code of curve 4, width 16, is not a multiple of 16";
     default: return "no such refusal";
     }
 }
 
 /* Decoding: pixel records (10 bytes) to scene records (28 bytes). Each scene number is within 51/100 of a unit of the exact curve, and is
- * the nearest whole number of units. Refuses by 1 to 6 and 11. */
+ * the nearest whole number of units. Refuses by 1 to 6, 11 and 13. */
 uint32_t ropeinstant_pixel_to_scene(const uint8_t *in, size_t in_len, uint8_t *out, size_t out_len, uint64_t *at);
 
 /* Encoding: scene records (28 bytes) to pixel records (10 bytes), each number to the nearest code. Refuses by 1 to 5 and 7. */
 uint32_t ropeinstant_scene_to_pixel(const uint8_t *in, size_t in_len, uint8_t *out, size_t out_len, uint64_t *at);
 
 /* Pixel records (10 bytes) to ACES records (28 bytes). Each ACES number is within 9/8 of a unit of what the exact curve and matrix give.
- * Refuses by 1 to 6, 11 and 12. */
+ * Refuses by 1 to 6 and 11 to 13. */
 uint32_t ropeinstant_pixel_to_aces(const uint8_t *in, size_t in_len, uint8_t *out, size_t out_len, uint64_t *at);
 
 /* The way back: ACES records (28 bytes) to the pixel records (10 bytes) with exactly these ACES numbers. Refuses by 1 to 5, 10 and 12.
@@ -94,7 +97,7 @@ uint32_t ropeinstant_aces_to_pixel(const uint8_t *in, size_t in_len, uint8_t *ou
 /* Float pixels, one at a time. Both return 0, or the number of the refusal, and then nothing that was lent has changed. This is proved, for
  * any numbers.
  *
- * Decoding: the three codes' scene numbers as floats, exactly: a scene number over 2^24. Refuses by 3 to 6 and 11. */
+ * Decoding: the three codes' scene numbers as floats, exactly: a scene number over 2^24. Refuses by 3 to 6, 11 and 13. */
 uint32_t ropeinstant_codes_to_floats(uint8_t curve, uint8_t width, uint16_t ei, uint16_t red, uint16_t green, uint16_t blue, double floats[3]);
 
 /* Encoding: each float, taken to the nearest unit, to the nearest code; a float pixel that was decoded gives its codes again. Refuses by
@@ -102,7 +105,8 @@ uint32_t ropeinstant_codes_to_floats(uint8_t curve, uint8_t width, uint16_t ei, 
 uint32_t ropeinstant_floats_to_codes(uint8_t curve, uint8_t width, uint16_t ei, double red, double green, double blue, uint16_t codes[3]);
 
 /* The top code of a width of 1 to 16 bits at full range: two to the width, less one. 0 for any other number, 140 among them, whose codes end
- * at 3760. It does not say that a curve has the width: a conversion refuses by 4 where it has not. This is proved, for every width. */
+ * at 3760. (The codes of curve 4, width 16, end at 16 times the top code of 12 bits.) It does not say that a curve has the width: a conversion
+ * refuses by 4 where it has not. This is proved, for every width. */
 uint16_t ropeinstant_top_code(uint8_t width);
 
 #ifdef __cplusplus

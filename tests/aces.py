@@ -6,7 +6,8 @@ import random, subprocess, sys, time
 
 from decoded import codes_of
 from rules import (
-    ACES_TO_PIXEL, NUMBERS, PIXEL, PIXEL_TO_ACES, PIXEL_TO_SCENE, SCENE_TO_PIXEL, SETTINGS, WITH_MATRIX, WITHOUT_MATRIX, aces, apart, numbers, pixel_of,
+    ACES_TO_PIXEL, NUMBERS, PIXEL, PIXEL_TO_ACES, PIXEL_TO_SCENE, READ, SCENE_TO_PIXEL, SETTINGS, WITH_MATRIX, WITHOUT_MATRIX, WRITTEN, aces, apart, numbers,
+    pixel_of,
 )
 from strips import ENDS, end_jobs, hold, jobs, returned
 
@@ -14,10 +15,20 @@ STRIPS, RECORDS = 20, 50000
 BORDERS = 1, 15, 16, 17, 1000, 4095, 4096, 4097, 20000  # records of a strip: where the library takes another way, and beside it
 SAMPLE = 1000  # of the records of each strip: the way back by definition
 LISTED = (3, 12, 800)
+NAMES = "pixel-to-scene", "scene-to-pixel", "pixel-to-aces", "aces-to-pixel"  # of the driver's conversions
 
 
 def drive(driver, command, conversion, data):
     return subprocess.run([driver, command, conversion, "/dev/stdin"], input=data, stdout=subprocess.PIPE, check=True).stdout
+
+
+def made_of(driver, conversion, s, rows):
+    """what the channels of the records of one setting become"""
+    line, made = drive(driver, "strip", NAMES[conversion], b"".join(READ[conversion].pack(*s, *row) for row in rows)).split(b"\n", 1)
+    assert line == b"done %d" % len(rows), (s, line)
+    records = list(WRITTEN[conversion].iter_unpack(made))
+    assert all(r[:3] == s for r in records), s
+    return [r[3:] for r in records]
 
 
 def same(got, want, record, asked):
@@ -116,7 +127,7 @@ def main():
     print(f"aces: strips of {', '.join(map(str, BORDERS))} ACES records give the pixels back; {tried} with a record one unit off or of curve 2 are refused there, and their outputs stay")
     todo = [*listed(), *end_jobs(table), *jobs(pick, table, (PIXEL_TO_ACES, ACES_TO_PIXEL), 4000), *jobs(pick, table, (PIXEL_TO_SCENE, SCENE_TO_PIXEL), 1000)]
     seen, done = hold([driver, "jobs"], table, todo)
-    assert all(f"refused {n}" in seen for n in (*range(1, 8), 10, 11, 12)), seen
+    assert all(f"refused {n}" in seen for n in (*range(1, 8), *range(10, 14))), seen
     strips, _ = returned([driver, "jobs"], done, PIXEL_TO_ACES, ACES_TO_PIXEL)
     print(f"aces: {len(todo)} strips, short, long, damaged or random, are converted or refused as the rules say, every byte of the outputs too: {seen}; {strips} ACES strips give the pixels back ({time.time() - begun:.0f} s)")
 

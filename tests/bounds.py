@@ -9,31 +9,22 @@ from fractions import Fraction
 from itertools import product
 from math import floor
 
-from aces import drive
+from aces import made_of
 from decoded import SETTINGS, codes_of, exact
-from rules import MATRICES, NUMBERS, PIXEL
+from rules import MATRICES, PIXEL_TO_ACES, PIXEL_TO_SCENE
 
 DECODED, ACES = Fraction(51, 100), Fraction(9, 8)  # the bounds, in units
 TOO_LITTLE = Fraction(11, 10)  # some ACES number is farther off
 PART = 2 ** 64  # of a unit: exact values are cut to whole numbers of parts,
 CUT = Fraction(1, PART)  # by less than this
-TWO_NUMBERS = 15589  # codes of all settings with two numbers within the bound
+TWO_NUMBERS = 14291  # codes of all settings with two numbers within the bound
 FARTHEST, AT_RANDOM = 12, 200  # codes of a side, pixels of a setting
 TOP = 7881936077  # the number of curve 4's top code, whose exact value is 2349/5
 
 
-def made_of(driver, conversion, s, pixels):
-    """the three numbers of each pixel"""
-    line, made = drive(driver, "strip", conversion, b"".join(PIXEL.pack(*s, *pixel) for pixel in pixels)).split(b"\n", 1)
-    assert line == b"done %d" % len(pixels), (s, line)
-    records = list(NUMBERS.iter_unpack(made))
-    assert all(r[:3] == s for r in records), s
-    return [r[3:] for r in records]
-
-
 def scenes(driver, s, parts):
     """the number of each code, the farthest that one is off in the power part, and how many codes have a second number within the bound"""
-    made = made_of(driver, "pixel-to-scene", s, [(n, n, n) for n in parts])
+    made = made_of(driver, PIXEL_TO_SCENE, s, [(n, n, n) for n in parts])
     assert all(len(set(ys)) == 1 for ys in made), s
     numbers = {n: ys[0] for n, ys in zip(parts, made)}
     farthest, second = Fraction(0), 0
@@ -79,7 +70,7 @@ def main():
         if s[0] in MATRICES:
             pixels = [*chosen(s, parts, numbers), *(tuple(pick.choices(codes_of(s), k=3)) for _ in range(AT_RANDOM))]
             count += len(pixels)
-            for pixel, triple in zip(pixels, made_of(driver, "pixel-to-aces", s, pixels)):
+            for pixel, triple in zip(pixels, made_of(driver, PIXEL_TO_ACES, s, pixels)):
                 off = aces_off(s, parts, pixel, triple)
                 assert off < ACES, (s, pixel, triple, float(off))
                 worst = max(worst, (off, s, pixel))

@@ -12,10 +12,10 @@ from reel import reel
 from rules import ACES_TO_PIXEL, LIMIT, NUMBERS, PIXEL, PIXEL_TO_ACES, PIXEL_TO_SCENE, READ, SCENE_TO_PIXEL, WRITTEN, convert, numbers
 from strips import jobs
 
-CHOSEN = [s for s in SETTINGS if s[1] != 16]
+CHOSEN = [s for s in SETTINGS if s[:2] != (3, 16)]
 CHANNELS = "red", "green", "blue"
 REFUSALS = {  # of each conversion, in the order in which they are tried
-    PIXEL_TO_ACES: "1 3 4 5 12 11 6", ACES_TO_PIXEL: "1 3 4 5 12 10", PIXEL_TO_SCENE: "1 3 4 5 11 6", SCENE_TO_PIXEL: "1 3 4 5 7",
+    PIXEL_TO_ACES: "1 3 4 5 12 13 11 6", ACES_TO_PIXEL: "1 3 4 5 12 10", PIXEL_TO_SCENE: "1 3 4 5 13 11 6", SCENE_TO_PIXEL: "1 3 4 5 7",
 }
 
 
@@ -90,6 +90,10 @@ def words_of(number, k, conversion, data):
         return f"refused 1: the input has {len(data)} bytes, which is not a whole number of records of {record.size} bytes"
     curve, width, ei, *channels = record.unpack_from(data, k * record.size)
     where = f"refused {number}: record {k} (byte {k * record.size}): "
+    if number == 13:
+        apart = codes_of((curve, width)).step
+        name, code = next((name, code) for name, code in zip(CHANNELS, channels) if code % apart)
+        return where + f"{name} code {code} is not a multiple of {apart}\n"
     if number in (6, 11):
         first, top = codes_of((curve, width))[0], codes_of((curve, width))[-1]
         name, code = next((name, code) for name, code in zip(CHANNELS, channels) if not first <= code <= top)
@@ -128,7 +132,7 @@ def held_to_rules(folder, pick, table, count):
             keeps(out, *run, status=REFUSED, saying=saying, data=data if piped else None)
         cause = "done" if how == "done" else f"refused {number}"
         seen[cause] = seen.get(cause, 0) + 1
-    assert all(cause in seen for cause in ("done", *(f"refused {n}" for n in (1, 3, 4, 5, 6, 7, 10, 11, 12)))), seen
+    assert all(cause in seen for cause in ("done", *(f"refused {n}" for n in (1, 3, 4, 5, 6, 7, 10, 11, 12, 13)))), seen
     return dict(sorted(seen.items()))
 
 
@@ -141,6 +145,7 @@ def listed():
         (3, 10, 800, 1023, 1024, 2000), (3, 12, 800, 0, 0, 4096), (4, 12, 0, 65535, 0, 0),
         (3, 140, 800, 256, 256, 256), (4, 140, 800, 256, 256, 256), (4, 140, 0, 256, 255, 0), (4, 140, 0, 3760, 256, 3761), (4, 140, 0, 100, 5000, 256),
         (4, 140, 0, 5000, 100, 256),
+        (4, 16, 0, 16, 17, 65535), (4, 16, 0, 65520, 0, 65535), (4, 16, 0, 1, 16, 32), (4, 16, 800, 1, 0, 0), (4, 16, 0, 65520, 0, 16), (3, 16, 800, 17, 65535, 1),
         (2, 12, 800, 0, 538, 4095), (2, 12, 800, 0, 4096, 0), (2, 10, 160, 0, 0, 1024), (2, 16, 800, 0, 0, 0), (2, 140, 0, 300, 300, 300), (2, 12, 0, 4096, 0, 0),
     )]
     tried = [(c, GOOD * 7 + bad + GOOD, b"") for c in (PIXEL_TO_ACES, PIXEL_TO_SCENE) for bad in of_pixels]

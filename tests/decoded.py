@@ -40,11 +40,14 @@ CONSTANTS = {  # of a curve that has them by its EI: cut a b c d e f
     },
 }
 WIDTHS = {2: (10, 12), 3: (10, 12, 16), 4: (12, 16, 140)}  # of each curve
-LEGAL = {140: range(256, 3761)}  # the codes of a width byte that is no count of bits
+CODES = {(4, 16): range(0, 65521, 16), (4, 140): range(256, 3761)}  # of a curve and a width where they are not all from 0 to the top code
 EIS = {2: tuple(CONSTANTS[2]), 3: tuple(CONSTANTS[3]), 4: (0,)}
 SETTINGS = [(curve, width, ei) for curve in WIDTHS for width in WIDTHS[curve] for ei in EIS[curve]]
-COUNT = 906673  # codes of all settings
-LISTED = {(4, 140, 0): {256: -302946, 581: -581, 1231: 3014569, 3760: 7881936077}}  # some codes of a setting and their numbers
+COUNT = 845233  # codes of all settings
+LISTED = {  # some codes of a setting and their numbers
+    (4, 140, 0): {256: -302946, 581: -581, 1231: 3014569, 3760: 7881936077},
+    (4, 16, 0): {0: -302946, 65520: 7881936077},
+}
 
 
 def top_code(width):
@@ -54,7 +57,7 @@ def top_code(width):
 
 def codes_of(s):
     """the codes of a setting, from the first to the top code"""
-    return LEGAL.get(s[1], range(top_code(s[1]) + 1))
+    return CODES.get(s[:2], range(top_code(s[1]) + 1))
 
 
 def number(x):
@@ -63,18 +66,17 @@ def number(x):
 
 def exact(curve, width, ei):
     """of each code in turn: whether it is in the toe, and the exact value in units (a fraction in the toe, else a decimal)"""
-    codes = codes_of((curve, width))
-    first_code, span = codes[0], codes[-1] - codes[0]
+    last = len(codes_of((curve, width))) - 1
     if curve == 4:
-        base, first, step = 2, 6 - Fraction(14 * 95, 928), Fraction(14 * 1023, 928 * span)
+        base, first, step = 2, 6 - Fraction(14 * 95, 928), Fraction(14 * 1023, 928 * last)
         less, factor, border = Decimal(64), Decimal(783) / Decimal(1747520), Fraction(-1)
     else:
         cut, a, b, c, d, e, f = (Fraction(x) for x in CONSTANTS[curve][ei].split())
-        base, first, step = 10, -d / c, 1 / (c * span)
+        base, first, step = 10, -d / c, 1 / (c * last)
         less, factor, border = number(b), 1 / number(a), e * cut + f
     power, ratio = Decimal(base) ** number(first), Decimal(base) ** number(step)
-    for n in codes:
-        t = Fraction(n - first_code, span)
+    for k in range(last + 1):
+        t = Fraction(k, last)
         if t > border:
             yield False, (power - less) * factor * UNIT
         else:
@@ -97,6 +99,8 @@ def refusal(curve, width, ei, code):
     if number:
         return number
     codes = codes_of((curve, width))
+    if code % codes.step:
+        return 13
     if code < codes[0]:
         return 11
     return 6 if code > codes[-1] else 0
@@ -114,7 +118,7 @@ def main():
         for curve in (0, 1, 2, 3, 4, 5, 255)
         for width in (0, 8, 10, 12, 14, 16, 17, 140, 255)
         for ei in (0, 1, 159, 160, 800, 1600, 1601, 2000, 65535)
-        for code in (0, 255, 256, 1023, 1024, 3760, 3761, 4095, 4096, 65535)
+        for code in (0, 1, 8, 15, 17, 255, 256, 1023, 1024, 3760, 3761, 4095, 4096, 65519, 65520, 65521, 65535)
         if refusal(curve, width, ei, code)
     ]
     text = b"".join(accepted) + b"".join(record(*r) for r in odd) + b"\x03"
@@ -122,7 +126,9 @@ def main():
     lines = out.split("\n")
     assert len(lines) == len(accepted) + len(odd) + 2, len(lines)
     assert lines[len(accepted):] == [f"refused {refusal(*r)}" for r in odd] + ["tail 1", ""], "a refusal differs"
+    assert {13, 11, 6, 5, 4, 3} == {refusal(*r) for r in odd}
     answers = iter(lines)
+    numbers = {}
     tiny = Decimal(10) ** (10 - DIGITS)
     worst = Decimal(0)
     for s in SETTINGS:
@@ -137,9 +143,12 @@ def main():
                 assert off + tiny < HALF, (s, y, value)
                 worst = max(worst, off)
             assert last is None or last < y, (s, y)
-            last = y
+            last = numbers[(*s, n)] = y
+    for n in codes_of((4, 12)):  # 02, item 5
+        assert numbers[4, 16, 0, 16 * n] == numbers[4, 12, 0, n], n
     assert len(accepted) == COUNT
     print(f"decoded: {len(accepted)} codes of {len(SETTINGS)} settings have the nearest whole number to the exact value, and rise with the code")
+    print(f"decoded: {len(codes_of((4, 16)))} codes of curve 4, width 16, have the numbers of the 12-bit codes that they are 16 times")
     print(f"decoded: the largest distance in the power part is {worst:.9f}")
     print(f"decoded: {len(odd)} settings and codes are refused as listed ({time.time() - begun:.0f} s)")
 

@@ -7,12 +7,13 @@ which is printed as 9.29 %. All codes are as printed.
 
 Appendix D: 0.18 times two to the stops, in thirds. At -2, 0 and +4 stops 891, 1232 and 2095 are printed, and 890, 1231 and 2094 are right: the
 exact curve stands at 890.481, 1231.499 and 2094.496."""
-import subprocess, sys
+import sys
 from decimal import Decimal
 from fractions import Fraction
 
+from aces import made_of
 from decoded import UNIT, codes_of, number
-from rules import NUMBERS, PIXEL
+from rules import SCENE_TO_PIXEL
 
 S = (4, 140, 0)
 SIGNALS = [Fraction(95, 1023), *sorted([Fraction(n, 100) for n in range(10, 101)] + [Fraction("0.2784")])]
@@ -31,21 +32,22 @@ def value(signal):
     return (Decimal(2) ** number(6 + Fraction(14, 928) * (1023 * signal - 95)) - 64) * SLOPE
 
 
+def signal_of(value):
+    """the signal at which the exact curve has a value"""
+    power = (value / SLOPE + 64).ln() / Decimal(2).ln()
+    return ((power - 6) * 928 / 14 + 95) / 1023
+
+
 def place(value):
     """where the exact curve stands among the legal codes"""
-    power = (value / SLOPE + 64).ln() / Decimal(2).ln()
     codes = codes_of(S)
-    return codes[0] + (codes[-1] - codes[0]) * ((power - 6) * 928 / 14 + 95) / 1023
+    return codes[0] + (codes[-1] - codes[0]) * signal_of(value)
 
 
 def encoded(driver, values):
     """the codes of scene values, each to the nearest unit"""
     units = [int((value * UNIT).to_integral_value()) for value in values]
-    data = b"".join(NUMBERS.pack(*S, x, x, x) for x in units)
-    out = subprocess.run([driver, "strip", "scene-to-pixel", "/dev/stdin"], input=data, stdout=subprocess.PIPE, check=True).stdout
-    line, made = out.split(b"\n", 1)
-    assert line == b"done %d" % len(values), line
-    pixels = [pixel[3:] for pixel in PIXEL.iter_unpack(made)]
+    pixels = made_of(driver, SCENE_TO_PIXEL, S, [(x, x, x) for x in units])
     assert all(red == green == blue for red, green, blue in pixels)
     return [red for red, _, _ in pixels]
 

@@ -110,7 +110,7 @@ def main():
         count, records = count + 1, records + len(data) // PIXEL.size
     long = mixed(pick, RECORDS) + b"\x03\x0c\x20"
     want = listed(table, long)
-    assert all(b" refused %d\n" % n in want for n in (3, 4, 5, 6, 11, 12)) and want.endswith(b"tail 3\n")
+    assert all(b" refused %d\n" % n in want for n in (3, 4, 5, 6, 11, 12, 13)) and want.endswith(b"tail 3\n")
     same(run(program, long), want)
     for steps in (1, 3, 7, 999, 4097), (65535, 65536, 65537), (131071,):
         part = long[:sum(steps) * 3]

@@ -12,12 +12,16 @@ RUN = 20000  # records
 
 def low_and_high(pick, codes, count):
     """the low bytes and the high bytes of random codes. All are computed at once, in one whole number with four bytes for each: a random number
-    below 2^16, times how many codes there are, is the place of a code, times 2^16, and a fraction"""
+    below 2^16, times how many codes there are, is the place of a code, times 2^16, and a fraction, which goes where codes are apart"""
     data = bytearray(4 * count)
     data[::4], data[1::4] = pick.randbytes(count), pick.randbytes(count)
     first = (codes[0] << 16).to_bytes(4, "little") * count
-    made = int.from_bytes(data, "little") * len(codes) + int.from_bytes(first, "little")
-    data = made.to_bytes(4 * count, "little")
+    made = int.from_bytes(data, "little") * len(codes)
+    if codes.step > 1:
+        data = bytearray(made.to_bytes(4 * count, "little"))
+        data[::4] = data[1::4] = bytes(count)
+        made = int.from_bytes(data, "little") * codes.step
+    data = (made + int.from_bytes(first, "little")).to_bytes(4 * count, "little")
     return data[2::4], data[3::4]
 
 

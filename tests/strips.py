@@ -98,11 +98,14 @@ def jobs(pick, table, conversions, count):
 
 
 def ends(s):
-    """pixels at the ends of a setting's codes, which pass; then with a code beyond an end in each channel, alone and beside one beyond the other end"""
-    first, top = codes_of(s)[0], codes_of(s)[-1]
+    """pixels at the ends of a setting's codes, which pass; then with a code beyond an end in each channel, alone and beside one beyond the other end;
+    and the same with codes beside a code, where codes are apart"""
+    known = codes_of(s)
+    first, top = known[0], known[-1]
     below, above = max(first - 1, 0), min(top + 1, 65535)
     yield first, top, first
-    for one, other in (below, above), (above, below):
+    beside = [(first + 1, top - 1), (top + known.step - 1, first + known.step // 2)] if known.step > 1 else []
+    for one, other in (below, above), (above, below), *beside:
         yield from ((one, first, top), (first, one, top), (first, top, one), (one, other, top), (one, top, other), (top, one, other))
 
 
@@ -158,7 +161,7 @@ def main():
     table = {s: numbers(s) for s in CHOSEN}
     todo = [(0, bytes(11), bytes(100)), (0, b"", b""), (1, b"", b""), *end_jobs(table), *jobs(pick, table, range(4), 4000)]
     seen, done = hold([sys.argv[1]], table, todo)
-    assert all(f"refused {n}" in seen for n in (*range(1, 8), 10, 11, 12)), seen
+    assert all(f"refused {n}" in seen for n in (*range(1, 8), *range(10, 14))), seen
     print(f"strips: {len(todo)} strips are converted or refused as the rules say, every byte of the outputs too: {seen}")
     for name, there, back in ("scene", PIXEL_TO_SCENE, SCENE_TO_PIXEL), ("ACES", PIXEL_TO_ACES, ACES_TO_PIXEL):
         strips, records = returned([sys.argv[1]], done, there, back)

@@ -14,7 +14,7 @@ ROOT = Path(__file__).resolve().parent.parent
 SCALE = 2 ** 128
 LIFT = 2  # the exponents of every curve are above -2
 LEGAL = 140  # the width byte of the legal range
-SHIFT = {10: 2 ** 13, 12: 2 ** 3, 16: 1, LEGAL: 2 ** 4}  # 2^63 over the scale of the middle digit's entries
+LEGAL_LAST = 3504  # its last step
 getcontext().prec = 120
 
 
@@ -101,13 +101,28 @@ def top_code(width):
     return 2 ** width - 1 if 1 <= width <= 16 else 0
 
 
-def last_step(width):
-    return 3504 if width == LEGAL else top_code(width)
+def last_step(number, width):
+    """the last step of a width of a curve. 02, item 5: at curve 4, width 16, a step is a 12-bit code"""
+    if number == 4 and width == LEGAL:
+        return LEGAL_LAST
+    return top_code(12 if number == 4 and width == 16 else width)
 
 
-def table(curve, width, front, first, ratio):
-    count = last_step(width) // 1024 + 1
-    shift = SHIFT[width]
+# by the last step, 2^63 over the scale of the middle digit's entries
+SHIFT = {top_code(10): 2 ** 13, top_code(12): 2 ** 3, top_code(16): 1, LEGAL_LAST: 2 ** 4}
+
+
+def steps(curve):
+    """the last steps of a curve's widths, each once, with the first width that has it"""
+    out = {}
+    for width in curve.widths:
+        out.setdefault(last_step(curve.number, width), width)
+    return out
+
+
+def table(curve, last, front, first, ratio):
+    count = last // 1024 + 1
+    shift = SHIFT[last]
     high = progression(count, curve.base ** front * first, squared(ratio, 10), 4 * shift * 2 ** 51 * curve.times, curve.times_over * curve.base ** LIFT)
     middle = progression(32, SCALE, squared(ratio, 5), 2 ** 63 // shift, 1)
     low = progression(32, SCALE, ratio, 2 ** 63, 1)
@@ -121,11 +136,11 @@ def written():
     for c in curves():
         front, first = seed(c.base, c.over, c.plus + LIFT * c.over - c.minus)
         ratios = ""
-        for w in c.widths:
-            zero, ratio = seed(c.base, c.over * last_step(w), c.rise)
+        for last, w in steps(c).items():
+            zero, ratio = seed(c.base, c.over * last, c.rise)
             assert zero == 0
-            ratios += f"at {w} {ratio} ∷ "
-            entries = "".join(f"    {x},\n" for x in table(c, w, front, first, ratio))
+            ratios += f"at {last} {ratio} ∷ "
+            entries = "".join(f"    {x},\n" for x in table(c, last, front, first, ratio))
             consts.append(f"\npub const {c.name}_W{w}: [u64; 128] = [\n{entries}];\n")
         seeds[c.number].append(f"seed {front} {first} ({ratios}[])")
     antt = (
@@ -134,18 +149,18 @@ def written():
         "use mathlib.Core.List.{List, [], _∷_}\n"
         "use Prim.Native.Nat.{ℕ}\n"
         "\n"
-        "-- a value for a width\n"
-        "pub record AtWidth (A : Type 0) : Type 0 where\n  pub width : ℕ\n  pub value : A\n"
+        "-- a value for a number\n"
+        "pub record At (A : Type 0) : Type 0 where\n  pub number : ℕ\n  pub value : A\n"
         "\n"
-        "abbrev pub at : {A : Type 0} → ℕ → A → AtWidth A\n"
-        "at width value = record { width = width; value = value }\n"
+        "abbrev pub at : {A : Type 0} → ℕ → A → At A\n"
+        "at number value = record { number = number; value = value }\n"
         "\n"
-        "-- At the scale 2 ^ 128, rounded down: base ^ (exponent at signal 0, and 2) is base ^ front * first; and for each width the ratio of a\n"
-        "-- step's power to the power of the step before it.\n"
+        "-- At the scale 2 ^ 128, rounded down: base ^ (exponent at signal 0, and 2) is base ^ front * first; and for each last step the ratio of\n"
+        "-- a step's power to the power of the step before it.\n"
         "pub record Seed : Type 0 where\n"
-        "  pub front : ℕ\n  pub first : ℕ\n  pub ratios : List (AtWidth ℕ)\n"
+        "  pub front : ℕ\n  pub first : ℕ\n  pub ratios : List (At ℕ)\n"
         "\n"
-        "abbrev pub seed : (front first : ℕ) → List (AtWidth ℕ) → Seed\n"
+        "abbrev pub seed : (front first : ℕ) → List (At ℕ) → Seed\n"
         "seed front first ratios = record { front = front; first = first; ratios = ratios }\n"
         "\n"
         "abbrev pub logC4Seed : Seed\n"

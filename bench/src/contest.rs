@@ -113,7 +113,7 @@ impl Contest {
 
 /// Pixel records with random codes.
 fn random_strip(setting: &Setting, pixels: usize) -> Vec<u8> {
-    let codes = Codes::of(setting.width);
+    let codes = Codes::of(setting.curve, setting.width);
     let mut state = 88172645463325252_u64;
     let mut strip = Vec::with_capacity(PIXEL * pixels);
     for _ in 0..pixels {
@@ -123,7 +123,7 @@ fn random_strip(setting: &Setting, pixels: usize) -> Vec<u8> {
             state ^= state << 13;
             state ^= state >> 7;
             state ^= state << 17;
-            strip.extend((codes.first + ((state >> 20) % (codes.span as u64 + 1)) as u16).to_le_bytes());
+            strip.extend(codes.any(state >> 20).to_le_bytes());
         }
     }
     strip
@@ -142,8 +142,8 @@ fn converted(function: Function, input: &[u8], length: usize) -> Vec<u8> {
 
 /// The signals of a strip's codes, as OpenColorIO takes them.
 fn signals(setting: &Setting, strip: &[u8]) -> Vec<f32> {
-    let known = Codes::of(setting.width);
-    codes(strip).iter().map(|code| f32::from(*code - known.first) / known.span as f32).collect()
+    let known = Codes::of(setting.curve, setting.width);
+    codes(strip).iter().map(|code| known.signal(*code) as f32).collect()
 }
 
 fn codes(strip: &[u8]) -> Vec<u16> {
@@ -189,8 +189,8 @@ fn distance(aces: &[u8], others: &[f64]) -> Distance {
 /// The share of pixels that OpenColorIO gives back a code off.
 fn codes_off(setting: &Setting, strip: &[u8], ocio: &Ocio, mut values: Vec<f32>) -> f64 {
     ocio.to_camera(&mut values);
-    let known = Codes::of(setting.width);
-    let returned: Vec<u16> = values.iter().map(|signal| known.first + (signal * known.span as f32).round() as u16).collect();
+    let known = Codes::of(setting.curve, setting.width);
+    let returned: Vec<u16> = values.iter().map(|signal| known.nearest(f64::from(*signal))).collect();
     let count = codes(strip).chunks_exact(3).zip(returned.chunks_exact(3)).filter(|(x, y)| x != y).count();
     count as f64 / (strip.len() / PIXEL) as f64
 }

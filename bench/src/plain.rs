@@ -32,32 +32,41 @@ pub struct Plain {
     codes: Codes,
 }
 
-/// The codes of a width: the first, for the signal 0, and how many further the top code is, for the signal 1.
+/// The codes of a curve's width: the first, for the signal 0, how far apart they are, and how many come after the first, of which the last is
+/// for the signal 1.
 #[derive(Clone, Copy)]
 pub struct Codes {
-    pub first: u16,
-    pub span: f64,
+    first: u16,
+    apart: u16,
+    last: u16,
 }
 
 impl Codes {
-    pub fn of(width: u8) -> Codes {
-        match width {
-            140 => Codes { first: 256, span: 3504.0 },
-            bits => Codes { first: 0, span: f64::from(top_code(bits)) },
+    pub fn of(curve: u8, width: u8) -> Codes {
+        match (curve, width) {
+            (4, 16) => Codes { first: 0, apart: 16, last: top_code(12) },
+            (4, 140) => Codes { first: 256, apart: 1, last: 3504 },
+            _ => Codes { first: 0, apart: 1, last: top_code(width) },
         }
     }
 
+    /// One of the codes, for any number.
+    pub fn any(&self, number: u64) -> u16 {
+        self.first + (number % (u64::from(self.last) + 1)) as u16 * self.apart
+    }
+
     fn holds(&self, code: u16) -> bool {
-        code >= self.first && f64::from(code - self.first) <= self.span
+        code % self.apart == 0 && code >= self.first && (code - self.first) / self.apart <= self.last
     }
 
     pub fn signal(&self, code: u16) -> f64 {
-        f64::from(code - self.first) / self.span
+        f64::from((code - self.first) / self.apart) / f64::from(self.last)
     }
 
     /// The nearest code of a signal, clipped to the first and the top code.
     pub fn nearest(&self, signal: f64) -> u16 {
-        self.first + (signal * self.span).round().max(0.0).min(self.span) as u16
+        let last = f64::from(self.last);
+        self.first + (signal * last).round().max(0.0).min(last) as u16 * self.apart
     }
 }
 
@@ -89,7 +98,7 @@ impl Plain {
             _ => return None,
         };
         let inverse = inverse(&curve.matrix);
-        Some(Plain { setting, curve, inverse, codes: Codes::of(setting[1]) })
+        Some(Plain { setting, curve, inverse, codes: Codes::of(setting[0], setting[1]) })
     }
 
     fn decode(&self, code: u16) -> f64 {

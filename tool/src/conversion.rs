@@ -25,7 +25,7 @@ is within 9/8 of a unit of what the exact curve and matrix give.
     from: &PIXEL,
     to: &ACES,
     convert: pixel_to_aces,
-    refusals: &[1, 3, 4, 5, 12, 11, 6],
+    refusals: &[1, 3, 4, 5, 12, 13, 11, 6],
 };
 
 pub const TO_CAMERA: Conversion = Conversion {
@@ -50,7 +50,7 @@ nearest whole number of units.
     from: &PIXEL,
     to: &SCENE,
     convert: pixel_to_scene,
-    refusals: &[1, 3, 4, 5, 11, 6],
+    refusals: &[1, 3, 4, 5, 13, 11, 6],
 };
 
 pub const FROM_SCENE: Conversion = Conversion {

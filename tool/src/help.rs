@@ -66,7 +66,10 @@ fn curves() -> String {
     CURVES.iter().for_each(|curve| text += &format!("Curve {} is {}.\n", curve.byte, curve.name));
     without_matrix().for_each(|curve| text += &no_matrix(curve));
     text += "A width is a count of bits, at full range.\n";
-    CURVES.iter().flat_map(|curve| curve.widths).filter(|width| width.lowest > 0).for_each(|width| text += &legal(width));
+    for curve in &CURVES {
+        curve.widths.iter().filter(|width| width.step > 1).for_each(|width| text += &recorder(curve, width));
+        curve.widths.iter().filter(|width| width.lowest > 0).for_each(|width| text += &legal(width));
+    }
     text + "Any other EI is refused, those above 1600 among them.\n"
 }
 
@@ -81,6 +84,17 @@ fn no_matrix(curve: &Curve) -> String {
 /// What a conversion to ACES asks of reels of a curve without an ACES matrix.
 fn kept_apart(curve: &Curve) -> String {
     format!("One record of curve {}, which has no ACES matrix, refuses the whole file:\nkeep its reels apart.\n", curve.byte)
+}
+
+fn recorder(curve: &Curve, width: &Width) -> String {
+    format!(
+        "Width {} of curve {} is the 12-bit code times {}, as recorders write it: up to\n{}, and no code that is not a multiple of {}.\n",
+        width.byte,
+        curve.byte,
+        width.step,
+        width.highest(),
+        width.step
+    )
 }
 
 fn legal(width: &Width) -> String {
@@ -210,7 +224,9 @@ mod tests {
         assert!(text.contains("Curve 2 is LogC (SUP 2.x, sensor value).\n") && text.contains("Curve 2 has no ACES matrix. It has scene"));
         assert!(text.contains("4      12, 16, 140  0\n") && text.contains("one unit is 2^-24") && text.contains("    10  no pixel"));
         assert!(text.contains("Width 140 is the legal range of 12 bits: the codes 256 to 3760.\n"));
-        let places = ["5   the EI", "12  the curve has no", "11  a code is below", "6   a code is above"].map(|words| text.find(words));
+        assert!(text.contains("Width 16 of curve 4 is the 12-bit code times 16, as recorders write it: up to\n65520, and no code"));
+        let places = ["5   the EI", "12  the curve has no", "13  a code of curve 4", "11  a code is below", "6   a code is above"]
+            .map(|words| text.find(words));
         assert!(places[0].is_some() && places.windows(2).all(|two| two[0] < two[1]));
     }
 }

@@ -106,6 +106,27 @@ mod tests {
     }
 
     #[test]
+    fn sixteen_bits_as_recorders_write_them() {
+        let of = |width: u8, codes: [u16; 3]| {
+            let mut pixel = vec![4, width, 0, 0];
+            codes.iter().for_each(|code| pixel.extend(code.to_le_bytes()));
+            pixel
+        };
+        let codes = [0, 1000, 4095];
+        let (twelve, sixteen) = (of(12, codes), of(16, codes.map(|code| 16 * code)));
+        let (mut scene, mut plain, mut pixel) = ([0; kinds::SCENE.size()], [0; kinds::SCENE.size()], [0; kinds::PIXEL.size()]);
+        type Call = fn(&[u8], &mut [u8]) -> Answer;
+        for (there, back) in [(pixel_to_scene as Call, scene_to_pixel as Call), (pixel_to_aces, aces_to_pixel)] {
+            assert_eq!((there(&sixteen, &mut scene), there(&twelve, &mut plain)), (Ok(1), Ok(1)));
+            assert_eq!(scene[4..], plain[4..]);
+            assert_eq!(back(&scene, &mut pixel), Ok(1));
+            assert_eq!(pixel, sixteen[..]);
+        }
+        assert_eq!(pixel_to_scene(&of(16, [16, 17, 65535]), &mut scene), Err(Refusal { number: 13, record: 0 }));
+        assert_eq!(pixel_to_scene(&[3, 16, 0x20, 3, 17, 0, 255, 255, 1, 0], &mut scene), Ok(1));
+    }
+
+    #[test]
     fn the_older_firmware() {
         let of = |width: u8, ei: u16, codes: [u16; 3]| {
             let mut pixel = vec![2, width];

@@ -14,12 +14,13 @@ pub struct Refusal {
 }
 
 /// In the order in which they are tried. 2, an output that is too short, is not here: the command makes room for every record.
-pub const REFUSALS: [Refusal; 9] = [
+pub const REFUSALS: [Refusal; 10] = [
     Refusal { number: 1, when: "the input is not a whole number of records", cause: |_, _, _| String::new() },
     Refusal { number: 3, when: "the curve is not 2, 3 or 4", cause: curve },
     Refusal { number: 4, when: "the width is not one of the curve's", cause: width },
     Refusal { number: 5, when: "the EI is not one of the curve's", cause: ei },
     Refusal { number: 12, when: "the curve has no ACES matrix", cause: no_matrix },
+    Refusal { number: 13, when: "a code of curve 4, width 16, is not a multiple of 16", cause: code_not_divisible },
     Refusal { number: 11, when: "a code is below the first code of its width", cause: code_below_first },
     Refusal { number: 6, when: "a code is above the top code of its width", cause: code_above_top },
     Refusal { number: 7, when: "a scene number to encode is outside -2^40 to 2^40", cause: scene_out_of_range },
@@ -92,6 +93,14 @@ fn no_matrix(kind: &Kind, setting: &Setting, _: &[u8]) -> String {
     }
 }
 
+fn code_not_divisible(kind: &Kind, setting: &Setting, record: &[u8]) -> String {
+    let step = setting.width().map_or(1, |width| width.step).into();
+    match CHANNELS.iter().zip(kind.numbers(record)).find(|(_, code)| code % step != 0) {
+        Some((channel, code)) => format!("{} code {} is not a multiple of {}", channel, code, step),
+        None => "a code is not a multiple of the distance of codes".to_string(),
+    }
+}
+
 fn code_below_first(kind: &Kind, setting: &Setting, record: &[u8]) -> String {
     let first = setting.width().map_or(0, |width| width.lowest).into();
     match CHANNELS.iter().zip(kind.numbers(record)).find(|(_, code)| *code < first) {
@@ -143,6 +152,12 @@ mod tests {
         assert_eq!(words(11, 0, (4, 140, 0), [100, 5000, 256]), "record 0 (byte 0): red code 100 is below 256");
         assert_eq!(words(6, 0, (4, 140, 0), [5000, 100, 256]), "record 0 (byte 0): red code 5000 is above 3760");
         assert_eq!(words(6, 0, (4, 140, 0), [3760, 256, 3761]), "record 0 (byte 0): blue code 3761 is above 3760");
+    }
+
+    #[test]
+    fn the_first_code_that_is_no_multiple() {
+        assert_eq!(words(13, 2, (4, 16, 0), [16, 17, 65535]), "record 2 (byte 20): green code 17 is not a multiple of 16");
+        assert_eq!(words(13, 0, (4, 16, 0), [65535, 1, 0]), "record 0 (byte 0): red code 65535 is not a multiple of 16");
     }
 
     #[test]

@@ -34,13 +34,16 @@ const fn full(bits: u8) -> Width {
 /// The legal range of 12 bits, as recorders write it.
 const LEGAL: Width = Width { byte: 140, lowest: 256, highest: Some(3760), step: 1 };
 
+/// 16 bits of LogC4 as recorders write them: the 12-bit code times 16.
+const RECORDER: Width = Width { byte: 16, lowest: 0, highest: Some(16 * 4095), step: 16 };
+
 /// Those with a published formula.
 const EIS: &[u16] = &[160, 200, 250, 320, 400, 500, 640, 800, 1000, 1280, 1600];
 
 pub const CURVES: [Curve; 3] = [
     Curve { byte: 2, name: "LogC (SUP 2.x, sensor value)", widths: &[full(10), full(12)], eis: EIS, matrix: false },
     Curve { byte: 3, name: "LogC3 (SUP 3.x, scene exposure)", widths: &[full(10), full(12), full(16)], eis: EIS, matrix: true },
-    Curve { byte: 4, name: "LogC4", widths: &[full(12), full(16), LEGAL], eis: &[0], matrix: true },
+    Curve { byte: 4, name: "LogC4", widths: &[full(12), RECORDER, LEGAL], eis: &[0], matrix: true },
 ];
 
 /// The bytes of a setting, with which every record begins.
@@ -118,7 +121,7 @@ mod tests {
     #[test]
     fn codes_of_all_settings() {
         let codes = |width: &Width| (usize::from(width.highest()) - usize::from(width.lowest)) / usize::from(width.step) + 1;
-        assert_eq!(all().map(|setting| codes(setting.width().unwrap())).sum::<usize>(), 906_673);
+        assert_eq!(all().map(|setting| codes(setting.width().unwrap())).sum::<usize>(), 845_233);
     }
 
     #[test]

@@ -10,11 +10,11 @@ use Rattle.curves.proofs.Rows.{NoneOf, at-least}
 use Rattle.curve_table.specs.Seeds.{Seed}
 use Rattle.curve_table.specs.Table.{noTable, tableIn}
 
-beyond : (width row : ℕ) (rs : List Row) (ss : List Seed) → length rs ≤ row → noTable ≡ tableIn width row rs ss
-beyond width row [] ss h = refl
-beyond width row (r ∷ rs) [] h = refl
-beyond width zero (r ∷ rs) (s ∷ ss) h = absurd (omega arith)
-beyond width (suc row) (r ∷ rs) (s ∷ ss) h = beyond width row rs ss (omega arith)
+beyond : (last row : ℕ) (rs : List Row) (ss : List Seed) → length rs ≤ row → noTable ≡ tableIn last row rs ss
+beyond last row [] ss h = refl
+beyond last row (r ∷ rs) [] h = refl
+beyond last zero (r ∷ rs) (s ∷ ss) h = absurd (omega arith)
+beyond last (suc row) (r ∷ rs) (s ∷ ss) h = beyond last row rs ss (omega arith)
 
-pub no-row : (width row : ℕ) (rs : List Row) (ss : List Seed) → length rs ≡ 11 → NoneOf 11 row → noTable ≡ tableIn width row rs ss
-no-row width row rs ss e h = beyond width row rs ss (omega (arith, e, at-least 11 row h))
+pub no-row : (last row : ℕ) (rs : List Row) (ss : List Seed) → length rs ≡ 11 → NoneOf 11 row → noTable ≡ tableIn last row rs ss
+no-row last row rs ss e h = beyond last row rs ss (omega (arith, e, at-least 11 row h))

@@ -111,13 +111,13 @@ fn logc3_w16(row: usize) -> [u64; 128]
     }
 }
 
-// Curve 4.
+// Curve 4. At width 16 its steps are the 12-bit codes.
 fn logc4(width: u8) -> [u64; 128]
     ensures { λ r. ⌜ r ≡ logC4Table width ⌝ }
 {
     match width {
         12 => values::LOGC4_W12,
-        16 => values::LOGC4_W16,
+        16 => values::LOGC4_W12,
         140 => values::LOGC4_W140,
         _ => NONE,
     }

@@ -7,5 +7,5 @@ use Rattle.rules.specs.declared.CurveName.the-variants.{LogC2, LogC3, LogC4, Un
 abbrev pub gapOf : CurveName → ℕ
 gapOf LogC2 = 9
 gapOf LogC3 = 28
-gapOf LogC4 = 28
+gapOf LogC4 = 466
 gapOf Unknown = 0

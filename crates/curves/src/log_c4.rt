@@ -28,9 +28,9 @@ impl LogC4 {
     // ".. and EI 0, since it doesn't depend on EI"
     pub const EI: u16 = 0;
 
-    // The decoded numbers of two codes are at least so many units apart. (At width 16 the first two
-    // are 29.08 apart before they are rounded.)
-    pub const GAP: u64 = 28;
+    // The decoded numbers of two codes are at least so many units apart. (Of 12-bit codes the first
+    // two are 466.02 apart before they are rounded.)
+    pub const GAP: u64 = 466;
 
     // "P = 6 + 14 · (1023·n - 95·top) / (928·top)"
     pub const BEGIN: u64 = 6;

@@ -14,3 +14,4 @@ pub mod Limit
 pub mod Close
 pub mod Answers
 pub mod Distance
+pub mod Recorder

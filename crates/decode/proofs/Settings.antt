@@ -3,7 +3,7 @@
 use mathlib.Core.Bool.{Bool}
 use lib.Dec.{T}
 use Rattle.rules.specs.declared.Setting.{Setting}
-use Rattle.rules.specs.Setting.{codesOf, Valid}
+use Rattle.rules.specs.Setting.{codesOf, lastOf, Valid}
 use Rattle.rules.specs.Exact.{scaleOf}
 use Rattle.rules.proofs.Settings.{forSettings, for-valid}
 use Rattle.curves.specs.LogC.{rowOf}
@@ -14,7 +14,7 @@ use Rattle.whole.proofs.Tests.{every}
 use Rattle.decode.proofs.Tests.{Source, tests, Tested, tested}
 
 abbrev pub sourceOf : Setting → Source
-sourceOf s = record { front = seedOf s .front; first = seedOf s .first; ratio = ratioOf (s .width) (seedOf s); shift = shiftOf (s .width) }
+sourceOf s = record { front = seedOf s .front; first = seedOf s .first; ratio = ratioOf (lastOf s) (seedOf s); shift = shiftOf (lastOf s) }
 
 abbrev test : Setting → Bool
 test s = every (tests (scaleOf s) (gapOf s) (tableOf s) (sourceOf s))

@@ -15,6 +15,6 @@ abbrev pub decodingResult : Decoding → Result ℤ
 decodingResult (Decoding.Scene y) = done (y .0 ∷ [])
 decodingResult (Decoding.Refused why) = refusedBy (numberOf why) 0
 
--- the decoded number, or the refusal of the first check that fails: 3, 4, 5, then 11 and 6
+-- the decoded number, or the refusal of the first check that fails: 3, 4, 5, then 13, 11 and 6
 unfoldable pub decodeResult : Setting → ℕ → Result ℤ
 decodeResult = decodeBy decoded

@@ -139,8 +139,8 @@ impl Decoder {
         ensures { λ r. ⌜ r ≡ decoderOf (scaleOf s) ⌝ }
     {
         match curves::name_of(s.curve) {
-            CurveName::LogC2 => Decoder::log_c(LogC2::at(s.ei), setting::last_step(s).0),
-            CurveName::LogC3 => Decoder::log_c(LogC3::at(s.ei), setting::last_step(s).0),
+            CurveName::LogC2 => Decoder::log_c(LogC2::at(s.ei), setting_codes::last_step(s).0),
+            CurveName::LogC3 => Decoder::log_c(LogC3::at(s.ei), setting_codes::last_step(s).0),
             CurveName::LogC4 => Decoder::log_c4(LogC4::new()),
             CurveName::Unknown => Decoder::NONE,
         }
@@ -176,5 +176,5 @@ pub fn scene(s: Setting, d: Decoder, t: &[u64; 128], n: Code) -> Scene
     requires { ⌜ codeCheck s (n .0) ≡ Passed ⌝ }
     ensures { λ r. ⌜ r .0 ≡ decoded s (n .0) ⌝ }
 {
-    d.number(t, setting::step_of(s, n))
+    d.number(t, setting_codes::step_of(s, n))
 }

@@ -26,7 +26,7 @@ fn decode_valid(s: Setting, n: Code) -> Decoding
     requires { ⌜ Valid s ⌝ }
     ensures { λ r. ⌜ decodingResult r ≡ single (codeCheck s (n .0)) (decoded s (n .0) ∷ []) ⌝ }
 {
-    match setting::check_code(s, n) {
+    match setting_codes::check_code(s, n) {
         Check::Refused(r) => Decoding::Refused(r),
         Check::Passed => {
             let d = Decoder::new(s);
@@ -36,7 +36,7 @@ fn decode_valid(s: Setting, n: Code) -> Decoding
     }
 }
 
-// The scene number of a code, or the refusal of the first check that fails: 3, 4, 5, then 11 and 6. The number is a decoded number in the rules'
+// The scene number of a code, or the refusal of the first check that fails: 3, 4, 5, then 13, 11 and 6. The number is a decoded number in the rules'
 // sense.
 pub fn decode(s: Setting, n: Code) -> Decoding
     ensures { λ r. ⌜ decodingResult r ≡ decodeResult s (n .0) ⌝ }

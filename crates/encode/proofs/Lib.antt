@@ -6,4 +6,5 @@ mod ThirdTests
 mod Settings
 mod Thirds
 pub mod Theorems
+pub mod Recorder
 pub mod Answers

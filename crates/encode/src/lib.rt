@@ -63,7 +63,7 @@ fn code_of(s: Setting, d: Decoder, t: &[u64; 128], last: Step, x: Scene) -> Code
     requires { ⌜ sceneCheck (x .0) ≡ Passed ⌝ }
     ensures { λ r. ⌜ r .0 ≡ encoded s (x .0) ⌝ }
 {
-    setting::code_at(s, nearest_step(s, d, t, last, x))
+    setting_codes::code_at(s, nearest_step(s, d, t, last, x))
 }
 
 // The pixel of three scene numbers, with the last step computed once.
@@ -81,7 +81,7 @@ pub fn pixel_of(
     requires { ⌜ sceneCheck (blue .0) ≡ Passed ⌝ }
     ensures { λ p. ⌜ p ≡ pixel (encoded s (red .0)) (encoded s (green .0)) (encoded s (blue .0)) ⌝ }
 {
-    let last = setting::last_step(s);
+    let last = setting_codes::last_step(s);
     Pixel {
         red: code_of(s, d, t, last, red),
         green: code_of(s, d, t, last, green),
@@ -98,7 +98,7 @@ fn encode_valid(s: Setting, x: Scene) -> Encoding
         Check::Passed => {
             let d = Decoder::new(s);
             let t = curve_table::table(s);
-            let last = setting::last_step(s);
+            let last = setting_codes::last_step(s);
             Encoding::Code(code_of(s, d, &t, last, x))
         }
     }

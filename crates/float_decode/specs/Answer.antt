@@ -23,7 +23,7 @@ abbrev pub floatDecodingResult : FloatDecoding → Result Float
 floatDecodingResult (FloatDecoding.Pixel f) = done (floats f)
 floatDecodingResult (FloatDecoding.Refused number) = refusedBy number 0
 
--- "Decoding one pixel answers either that float pixel or a refusal number": that of the first check that fails, 3, 4, 5, then 11 and 6
+-- "Decoding one pixel answers either that float pixel or a refusal number": that of the first check that fails, 3, 4, 5, then 13, 11 and 6
 unfoldable pub decodePixelResult : Setting → Pixel → Result Float
 decodePixelResult = decodeFloatsBy decoded
 

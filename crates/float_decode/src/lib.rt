@@ -60,7 +60,7 @@ fn decode_valid(s: Setting, p: Pixel) -> FloatDecoding
     requires { ⌜ Valid s ⌝ }
     ensures { λ a. ⌜ floatDecodingResult a ≡ single (codesCheck s p) (floats (floatPixel s p)) ⌝ }
 {
-    match setting::check_pixel(s, p) {
+    match setting_codes::check_pixel(s, p) {
         Check::Refused(why) => refused(why),
         Check::Passed => {
             let d = Decoder::new(s);
@@ -70,7 +70,7 @@ fn decode_valid(s: Setting, p: Pixel) -> FloatDecoding
     }
 }
 
-// The float pixel of a pixel, or the refusal number of the first check that fails: 3, 4, 5, then 11 and 6 for red, green
+// The float pixel of a pixel, or the refusal number of the first check that fails: 3, 4, 5, then 13, 11 and 6 for red, green
 // and blue.
 pub fn decode_pixel(s: Setting, p: Pixel) -> FloatDecoding
     ensures { λ a. ⌜ floatDecodingResult a ≡ decodePixelResult s p ⌝ }

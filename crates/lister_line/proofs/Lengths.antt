@@ -8,29 +8,15 @@ use lib.Dec.{eqb}
 use lib.IntN.{natAbs}
 use lib.ListN.{length, length-append}
 use Rattle.rules.specs.declared.Refusal.{Refusal}
-use Rattle.rules.specs.declared.Refusal as refusal
 use Rattle.rules.specs.declared.Triple.{Triple}
 use Rattle.rules.specs.Choice.{choose}
 use Rattle.rules.specs.Refusal.{numberOf}
+use Rattle.rules.proofs.Results.{number-bounds}
 use Rattle.text.proofs.Digits.{length-decimal, length-signed}
 use Rattle.rules.specs.declared.Outcome.the-variants.{Aces, Refused}
 use Rattle.lister_line.specs.Line.{longest, longestTail}
 use Rattle.rules.specs.Decimal.{decimal, signed}
 use Rattle.rules.specs.Lister.{lineOf, line, tail, tailLine}
-
-number-small : (why : Refusal) → numberOf why < 100
-number-small refusal.Refusal.PartialRecord = omega arith
-number-small refusal.Refusal.ShortOutput = omega arith
-number-small refusal.Refusal.UnknownCurve = omega arith
-number-small refusal.Refusal.UnknownWidth = omega arith
-number-small refusal.Refusal.UnknownEi = omega arith
-number-small refusal.Refusal.CodeAboveTop = omega arith
-number-small refusal.Refusal.SceneOutOfRange = omega arith
-number-small refusal.Refusal.FloatNotFinite = omega arith
-number-small refusal.Refusal.FloatOutOfRange = omega arith
-number-small refusal.Refusal.NoPixel = omega arith
-number-small refusal.Refusal.CodeBelowFirst = omega arith
-number-small refusal.Refusal.NoMatrix = omega arith
 
 module _ (k : ℕ) (h : k < 2 ^ 64) where
   index-long : length (decimal k) ≤ 20
@@ -44,7 +30,7 @@ module _ (k : ℕ) (h : k < 2 ^ 64) where
       simp length-append (omega (arith, index-long, red, green, blue))
 
   pub refused-long : (why : Refusal) → length (line k (Refused why)) ≤ longest
-  refused-long why = let n : length (decimal (numberOf why)) ≤ 2 = length-decimal 1 (numberOf why) (number-small why) in simp length-append (omega (arith, index-long, n))
+  refused-long why = let n : length (decimal (numberOf why)) ≤ 2 = length-decimal 1 (numberOf why) (number-bounds why .1) in simp length-append (omega (arith, index-long, n))
 
 pub tail-long : (n : ℕ) → n < 10 → length (tailLine n) ≤ longestTail
 tail-long n h = go (eqb n 0)

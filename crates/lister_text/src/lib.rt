@@ -35,7 +35,7 @@ fn judge_valid(s: Setting, r: &[u8]) -> Outcome
     }
 }
 
-// A record judged alone: refusals 3, 4, 5 and 12, then 11 and 6 of each code.
+// A record judged alone: refusals 3, 4, 5 and 12, then 13, 11 and 6 of each code.
 fn judge(r: &[u8]) -> Outcome
     requires { ⌜ length (now r) ≡ size ⌝ }
     ensures { λ o. ⌜ o ≡ outcomeOf (now (r .entry)) ⌝ }

@@ -31,7 +31,7 @@ use Rattle.rules.specs.ExactRow.{acesTolerance, WithinRow}
 use Rattle.rules.specs.Matrix.{matrixOf, acesNumber, IsAces}
 use Rattle.rules.specs.Record.{IsBytes, settingOf, pixelIn, pixelSize, numbersSize}
 use Rattle.rules.specs.Strip.{Conversion, recordCheck, records, recordAt, written, scanOf, answerOf, outputAfter, resultOf, stripAfter}
-use Rattle.rules.proofs.Results.{number-positive, done-answer, refused-answer}
+use Rattle.rules.proofs.Results.{number-bounds, done-answer, refused-answer}
 use Rattle.rules.proofs.Settings.{refused-never}
 use Rattle.rules.proofs.Records.{length-record}
 use Rattle.decode.specs.Decoded.{decoded}
@@ -144,8 +144,8 @@ refusal-positive : (s : Setting) → 0 < refusalOf s
 refusal-positive s = go (acesCheck s)
   where
     go : (x : Check) → 0 < numberOfCheck (then x (check.Check.Refused NoPixel))
-    go check.Check.Passed = number-positive NoPixel
-    go (check.Check.Refused why) = number-positive why
+    go check.Check.Passed = number-bounds NoPixel .0
+    go (check.Check.Refused why) = number-bounds why .0
 
 -- ---- any strip of n ACES records, with an output long enough
 module _ (aces output : List ℕ) (n : ℕ) (h : IsBytes aces) (l : length aces ≡ n * numbersSize) (room : n * pixelSize ≤ length output) where

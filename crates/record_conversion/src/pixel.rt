@@ -24,7 +24,7 @@ pub fn check_codes(s: Setting, r: &[u8]) -> Check
     requires { ⌜ length (now r) ≡ pixelSize ⌝ }
     ensures { λ x. ⌜ x ≡ channelChecks codeBytes (codeCheck s) (now (r .entry)) ⌝ }
 {
-    setting::check_pixel(s, records::pixel_in(r))
+    setting_codes::check_pixel(s, records::pixel_in(r))
 }
 
 // The scene number of the code at a place of the record.

@@ -138,5 +138,5 @@ pub extern "C" fn ropeinstant_floats_to_codes(
 pub extern "C" fn ropeinstant_top_code(width: u8) -> u16
     ensures { λ n. ⌜ n ≡ topOf width ⌝ }
 {
-    setting::top_code(width).0
+    setting_codes::top_code(width).0
 }

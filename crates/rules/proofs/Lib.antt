@@ -5,6 +5,8 @@ pub mod NoMatrix
 pub mod Bounds
 pub mod TopCode
 pub mod Codes
+pub mod NotDivisible
+pub mod Recorder
 pub mod Records
 pub mod Closest
 pub mod Search

@@ -19,7 +19,7 @@ use Rattle.rules.specs.declared.CurveName.{CurveName}
 use Rattle.rules.specs.declared.CurveName.the-variants.{LogC2, LogC3, LogC4, Unknown}
 use Rattle.rules.specs.declared.Pixel.{Pixel}
 use Rattle.rules.specs.declared.Refusal.{Refusal}
-use Rattle.rules.specs.declared.Refusal.the-variants.{PartialRecord, ShortOutput, UnknownCurve, UnknownWidth, UnknownEi, CodeAboveTop, CodeBelowFirst, SceneOutOfRange, FloatNotFinite, FloatOutOfRange, NoMatrix}
+use Rattle.rules.specs.declared.Refusal.the-variants.{PartialRecord, ShortOutput, UnknownCurve, UnknownWidth, UnknownEi, CodeAboveTop, CodeBelowFirst, CodeNotDivisible, SceneOutOfRange, FloatNotFinite, FloatOutOfRange, NoMatrix}
 use Rattle.rules.specs.declared.Setting.{Setting}
 use Rattle.rules.specs.declared.Triple.{Triple}
 use Rattle.rules.specs.Pixels.{pixel, triple, codesCheck}
@@ -66,10 +66,11 @@ setting-never s = go (known (named (s .curve))) (member (s .width) (widthsOf (na
         after-three (refuseUnless x UnknownCurve) (refuseUnless y UnknownWidth) (refuseUnless z UnknownEi) (unless x UnknownCurve (λ e. omega arith)) (unless y UnknownWidth (λ e. omega arith)) (unless z UnknownEi (λ e. omega arith))
 
 code-never : (s : Setting) (n : ℕ) → OtherCheck (codeCheck s n)
-code-never s n = go (leb (codesOf s .first) n) (leb n (codeAt s (lastOf s)))
+code-never s n = go (eqb (n % codesOf s .apart) 0) (leb (codesOf s .first) n) (leb n (codeAt s (lastOf s)))
   where
-    go : (x y : Bool) → OtherCheck (then (refuseUnless x CodeBelowFirst) (refuseUnless y CodeAboveTop))
-    go x y = after (refuseUnless x CodeBelowFirst) (refuseUnless y CodeAboveTop) (unless x CodeBelowFirst (λ e. omega arith)) (unless y CodeAboveTop (λ e. omega arith))
+    go : (x y z : Bool) → OtherCheck (then (refuseUnless x CodeNotDivisible) (then (refuseUnless y CodeBelowFirst) (refuseUnless z CodeAboveTop)))
+    go x y z =
+        after-three (refuseUnless x CodeNotDivisible) (refuseUnless y CodeBelowFirst) (refuseUnless z CodeAboveTop) (unless x CodeNotDivisible (λ e. omega arith)) (unless y CodeBelowFirst (λ e. omega arith)) (unless z CodeAboveTop (λ e. omega arith))
 
 scene-never : (x : ℤ) → OtherCheck (sceneCheck x)
 unfolding sceneCheck

@@ -24,7 +24,7 @@ abbrev pub floatsCheck : (x y z : Float) → Check
 floatsCheck x y z = then (floatCheck x) (then (floatCheck y) (floatCheck z))
 
 module _ (number : Setting → ℕ → ℤ) (s : Setting) where
-  -- decoding one code: 3, 4, 5, then 11 and 6
+  -- decoding one code: 3, 4, 5, then 13, 11 and 6
   abbrev pub decodeBy : ℕ → Result ℤ
   decodeBy n = single (then (settingCheck s) (codeCheck s n)) (number s n ∷ [])
 
@@ -44,7 +44,7 @@ module _ (number : Setting → ℕ → ℤ) (s : Setting) where
   abbrev pub wayBackBy : Triple → Result ℕ
   wayBackBy a = single (then (acesCheck s) (foundCheck (pixelBy number s a))) (codesFound (pixelBy number s a))
 
-  -- "Decoding one pixel answers either that float pixel or a refusal number": 3, 4, 5, then 11 and 6 for red, green and blue
+  -- "Decoding one pixel answers either that float pixel or a refusal number": 3, 4, 5, then 13, 11 and 6 for red, green and blue
   abbrev pub decodeFloatsBy : Pixel → Result Float
   decodeFloatsBy p =
       single (then (settingCheck s) (codesCheck s p)) (floatOf (number s (p .red .0)) ∷ floatOf (number s (p .green .0)) ∷ floatOf (number s (p .blue .0)) ∷ [])

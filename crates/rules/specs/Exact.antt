@@ -12,7 +12,8 @@ pub record Scale : Type 0 where
   pub curve : Curve
   pub last : ℕ
 
--- "a code n stands for the signal n / top", at width 140 "(n - 256) / 3504": the step i for the signal i / last
+-- "a code n stands for the signal n / top", at width 140 "(n - 256) / 3504", and at curve 4, width 16, as "the code over 16" does at width 12: the
+-- step i for the signal i / last
 abbrev pub signal : Scale → Fraction → Fraction
 signal k i = i /ℚ whole (k .last)
 

@@ -4,7 +4,7 @@ use mathlib.Core.Bool.{Bool}
 use Prim.Native.Nat.{ℕ}
 use Rattle.rules.specs.Choice.{choose}
 use Rattle.rules.specs.declared.Refusal.{Refusal}
-use Rattle.rules.specs.declared.Refusal.the-variants.{PartialRecord, ShortOutput, UnknownCurve, UnknownWidth, UnknownEi, CodeAboveTop, SceneOutOfRange, FloatNotFinite, FloatOutOfRange, NoPixel, CodeBelowFirst, NoMatrix}
+use Rattle.rules.specs.declared.Refusal.the-variants.{PartialRecord, ShortOutput, UnknownCurve, UnknownWidth, UnknownEi, CodeAboveTop, SceneOutOfRange, FloatNotFinite, FloatOutOfRange, NoPixel, CodeBelowFirst, NoMatrix, CodeNotDivisible}
 use Rattle.rules.specs.declared.Check.{Check}
 use Rattle.rules.specs.declared.Check.the-variants.{Passed, Refused}
 
@@ -33,6 +33,8 @@ numberOf NoPixel = 10
 numberOf CodeBelowFirst = 11
 -- 02, item 3: "curve 2 in a conversion to or from ACES, checked after 5"
 numberOf NoMatrix = 12
+-- 02, item 5: "a curve 4 width 16 code not divisible by 16, checked first in the channel"
+numberOf CodeNotDivisible = 13
 
 -- the second check's answer where the first passes
 abbrev pub then : Check → Check → Check

@@ -1,16 +1,16 @@
--- 01, "Records and settings", and 02, items 1 to 3: the settings there are, their checks, and their codes.
+-- 01, "Records and settings", and 02, items 1 to 3 and 5: the settings there are, their checks, and their codes.
 -- Assumes nothing.
 use mathlib.Core.Bool.{Bool, true, false}
 use mathlib.Core.List.{List, [], _∷_, map}
 use mathlib.Core.Path.{_≡_}
-use Prim.Native.Nat.{ℕ, _+_, _-_, _*_, _/_, _^_}
+use Prim.Native.Nat.{ℕ, _+_, _-_, _*_, _/_, _%_, _^_}
 use lib.Dec.{eqb, leb}
 use Rattle.rules.specs.declared.Setting.{Setting}
 use Rattle.rules.specs.declared.CurveName.{CurveName}
 use Rattle.rules.specs.declared.CurveName.the-variants.{LogC2, LogC3, LogC4, Unknown}
 use Rattle.rules.specs.declared.Check.{Check}
 use Rattle.rules.specs.declared.Check.the-variants.{Passed}
-use Rattle.rules.specs.declared.Refusal.the-variants.{UnknownCurve, UnknownWidth, UnknownEi, CodeAboveTop, CodeBelowFirst, NoMatrix}
+use Rattle.rules.specs.declared.Refusal.the-variants.{UnknownCurve, UnknownWidth, UnknownEi, CodeAboveTop, CodeBelowFirst, NoMatrix, CodeNotDivisible}
 use Rattle.rules.specs.Choice.{choose, member}
 use Rattle.rules.specs.Refusal.{then, refuseUnless}
 use Rattle.rules.specs.Curve.{Curve, logC4, logC, Row, logC2Rows, logC3Rows, noConstants, constantsAt}
@@ -89,16 +89,28 @@ pub record Codes : Type 0 where
   pub apart : ℕ
   pub last : ℕ
 
--- 02, item 1, of width 140: "the signal is (n - 256) / 3504 and the codes are 256 to 3760". Of any other width the codes are those from 0 to the
--- top code; item 2: "Widths 10, 12 and 16 take it from there".
-abbrev pub firstCode : (width : ℕ) → ℕ
-firstCode width = choose (eqb width 140) 256 0
+-- "a code n stands for the signal n / top": the codes from 0 to the top code; 02, item 2: "Widths 10, 12 and 16 take it from there"
+abbrev pub codesToTop : (width : ℕ) → Codes
+codesToTop width = record { first = 0; apart = 1; last = topOf width }
 
-abbrev pub lastStep : (width : ℕ) → ℕ
-lastStep width = choose (eqb width 140) 3504 (topOf width)
+-- 02, item 1, of width 140: "the signal is (n - 256) / 3504 and the codes are 256 to 3760"
+abbrev pub legalCodes : Codes
+legalCodes = record { first = 256; apart = 1; last = 3504 }
+
+-- 02, item 5: "The recorders our buyers have store the 12-bit code times 16. For curve 4, width 16 now means that: the code over 16 is read as a
+-- 12-bit code": a step is a 12-bit code
+abbrev pub recorderCodes : Codes
+recorderCodes = record { first = 0; apart = 16; last = topOf 12 }
+
+-- "Curve 3 keeps 65535."
+abbrev pub codesAt : CurveName → (width : ℕ) → Codes
+codesAt LogC2 width = codesToTop width
+codesAt LogC3 width = codesToTop width
+codesAt LogC4 width = choose (eqb width 16) recorderCodes (choose (eqb width 140) legalCodes (codesToTop width))
+codesAt Unknown width = codesToTop width
 
 unfoldable pub codesOf : Setting → Codes
-codesOf s = record { first = firstCode (s .width); apart = 1; last = lastStep (s .width) }
+codesOf s = codesAt (named (s .curve)) (s .width)
 
 abbrev pub lastOf : Setting → ℕ
 lastOf s = codesOf s .last
@@ -110,10 +122,13 @@ codeAt s i = codesOf s .first + i * codesOf s .apart
 abbrev pub stepOf : Setting → (code : ℕ) → ℕ
 stepOf s n = (n - codesOf s .first) / codesOf s .apart
 
--- refusals 11 and 6: a code below the first, and one above the top ("code above top")
-abbrev pub codeBetween : (first top : ℕ) → ℕ → Check
-codeBetween first top n = then (refuseUnless (leb first n) CodeBelowFirst) (refuseUnless (leb n top) CodeAboveTop)
+-- refusals 13, 11 and 6: "a curve 4 width 16 code not divisible by 16, checked first in the channel" (any code is divisible by 1), "a code below
+-- 256 at width 140", and "code above top"
+abbrev pub codeAmong : (first apart top : ℕ) → ℕ → Check
+codeAmong first apart top n =
+    then (refuseUnless (eqb (n % apart) 0) CodeNotDivisible)
+    (then (refuseUnless (leb first n) CodeBelowFirst) (refuseUnless (leb n top) CodeAboveTop))
 
 -- the same, of a setting that passes its checks
 abbrev pub codeCheck : Setting → ℕ → Check
-codeCheck s n = codeBetween (codesOf s .first) (codeAt s (lastOf s)) n
+codeCheck s n = codeAmong (codesOf s .first) (codesOf s .apart) (codeAt s (lastOf s)) n

@@ -67,6 +67,7 @@ pub enum Refusal {
     NoPixel,
     CodeBelowFirst,
     NoMatrix,
+    CodeNotDivisible,
 }
 
 // What a check answers.

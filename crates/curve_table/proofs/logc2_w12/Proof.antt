@@ -24,4 +24,4 @@ logc2-w12-spec =
     (λ c. rw (c .match .keys9))
     (λ c. rw (c .match .keys10))
     (λ c. rw (c .match .keys11))
-    (λ c. no-row 12 _ logC2Rows logC2Seeds refl (c .match .rest)))
+    (λ c. no-row _ _ logC2Rows logC2Seeds refl (c .match .rest)))
