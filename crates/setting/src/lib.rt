@@ -1,9 +1,10 @@
 // The checks of a setting, and the numbers of the refusals.
 ghost use mathlib.Core.Path.{_≡_};
+ghost use Prim.Native.Nat.{_<_};
 ghost use Rattle.rules.specs.Refusal.{numberOf, then, refuseUnless};
 ghost use Rattle.rules.specs.declared.Refusal.the-variants.{UnknownWidth, UnknownEi, NoMatrix};
 ghost use Rattle.rules.specs.Setting.{named, hasMatrix, settingCheck, acesCheck};
-ghost use Rattle.setting.specs.Same.{sameSetting};
+ghost use Rattle.setting.specs.Same.{wordOf, sameSetting};
 use curves::log_c::LogC;
 use curves::log_c2::LogC2;
 use curves::log_c3::LogC3;
@@ -89,15 +90,17 @@ pub fn check_for_aces(s: Setting) -> Check
     first_refusal(setting, matrix)
 }
 
-// Whether two settings are the same.
+// The four bytes of a setting as one number; curve and width have one byte each.
+fn word(s: Setting) -> u32
+    ensures { λ r. ⌜ (r ≡ wordOf s) × (s .curve < 256) × (s .width < 256) ⌝ }
+{
+    s.curve as u32 + 256 * (s.width as u32) + 65536 * (s.ei as u32)
+}
+
+// Whether two settings are the same. (By one number of each: every record's setting is compared with that of the record
+// before it, and part by part that took 5 % of pixel to ACES.)
 pub fn same_setting(a: Setting, b: Setting) -> bool
     ensures { λ r. ⌜ r ≡ sameSetting a b ⌝ }
 {
-    if a.curve != b.curve {
-        return false;
-    }
-    if a.width != b.width {
-        return false;
-    }
-    a.ei == b.ei
+    word(a) == word(b)
 }
