@@ -94,7 +94,7 @@ fn no_matrix(kind: &Kind, setting: &Setting, _: &[u8]) -> String {
 }
 
 fn code_not_divisible(kind: &Kind, setting: &Setting, record: &[u8]) -> String {
-    let step = setting.width().map_or(1, |width| width.step).into();
+    let step: i64 = setting.width().map_or(1, |width| width.step).into();
     match CHANNELS.iter().zip(kind.numbers(record)).find(|(_, code)| code % step != 0) {
         Some((channel, code)) => format!("{} code {} is not a multiple of {}", channel, code, step),
         None => "a code is not a multiple of the distance of codes".to_string(),
