@@ -98,7 +98,7 @@ fn word(s: Setting) -> u32
 }
 
 // Whether two settings are the same. (By one number of each: every record's setting is compared with that of the record
-// before it, and part by part that took 5 % of pixel to ACES.)
+// before it, and part by part that took up to 5 % more of pixel to ACES.)
 pub fn same_setting(a: Setting, b: Setting) -> bool
     ensures { λ r. ⌜ r ≡ sameSetting a b ⌝ }
 {
