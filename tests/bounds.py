@@ -17,7 +17,7 @@ DECODED, ACES = Fraction(51, 100), Fraction(9, 8)  # the bounds, in units
 TOO_LITTLE = Fraction(11, 10)  # some ACES number is farther off
 PART = 2 ** 64  # of a unit: exact values are cut to whole numbers of parts,
 CUT = Fraction(1, PART)  # by less than this
-TWO_NUMBERS = 14291  # codes of all settings with two numbers within the bound
+TWO_NUMBERS = 14378  # codes of all settings with two numbers within the bound
 FARTHEST, AT_RANDOM = 12, 200  # codes of a side, pixels of a setting
 TOP = 7881936077  # the number of curve 4's top code, whose exact value is 2349/5
 

@@ -12,7 +12,7 @@ from reel import reel
 from rules import ACES_TO_PIXEL, LIMIT, NUMBERS, PIXEL, PIXEL_TO_ACES, PIXEL_TO_SCENE, READ, SCENE_TO_PIXEL, WRITTEN, convert, numbers
 from strips import jobs
 
-CHOSEN = [s for s in SETTINGS if s[:2] != (3, 16)]
+CHOSEN = [s for s in SETTINGS if s[:2] != (3, 16) or s[2] == 800]  # one of the eleven with 65536 codes
 CHANNELS = "red", "green", "blue"
 REFUSALS = {  # of each conversion, in the order in which they are tried
     PIXEL_TO_ACES: "1 3 4 5 12 13 11 6", ACES_TO_PIXEL: "1 3 4 5 12 10", PIXEL_TO_SCENE: "1 3 4 5 13 11 6", SCENE_TO_PIXEL: "1 3 4 5 7",

@@ -55,7 +55,8 @@ def few_resources(folder):
     out, seen = folder / "out", set()
     for megabytes in (*range(2, 12), 16, 24, 32, 64):
         def tried(*words):
-            return subprocess.run([program, *words], capture_output=True, preexec_fn=limited(**{"as": megabytes << 20}))
+            traced = {**os.environ, "RUST_BACKTRACE": "1"}  # with which Rust itself can wait forever where memory runs out
+            return subprocess.run([program, *words], capture_output=True, timeout=60, env=traced, preexec_fn=limited(**{"as": megabytes << 20}))
         if tried("--version").returncode:
             continue  # too little for the program to begin at all
         for chunk in 4096, 1000000:

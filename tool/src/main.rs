@@ -41,7 +41,9 @@ use std::panic::catch_unwind;
 use std::process::ExitCode;
 
 /// A fault of the program itself, of which Rust has said where, ends as a failure too, so that no status is outside 0 to 3.
+/// No trace of calls is printed: where memory has run out, Rust's own printing of one waits for a lock that its thread holds.
 fn main() -> ExitCode {
+    std::env::remove_var("RUST_BACKTRACE");
     match catch_unwind(ending).unwrap_or(End::Status(FAILED)) {
         End::Status(status) => ExitCode::from(status),
         End::Signal(signal) => {
