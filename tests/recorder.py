@@ -1,7 +1,7 @@
 #!/usr/bin/env python3
 """recorder.py DRIVER [SEED]: 02, item 5. Have DRIVER (tests/driver.c, linked with the library) convert at curve 4, width 16, and hold it to width 12:
 a code is a 12-bit code times 16. Each of the 65536 codes of two bytes is tried in each channel: the multiples of 16 have the numbers of the 12-bit
-codes, and any other is refused by 13 with the output untouched; curve 3 takes them all. Scene numbers at and beside every place where the code
+codes, and any other is refused by 13 (in a strip of several, with the output untouched); curve 3 takes them all. Scene numbers at and beside every place where the code
 changes, and some at random, become the 12-bit answer times 16, within two thirds of a 12-bit code of the exact curve. Strips of widths 12, 16 and
 140 go to ACES and come back."""
 import random, subprocess, sys, time

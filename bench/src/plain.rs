@@ -55,12 +55,18 @@ impl Codes {
         self.first + (number % (u64::from(self.last) + 1)) as u16 * self.apart
     }
 
+    /// How many further the top code is than the first.
+    fn span(&self) -> u16 {
+        self.last * self.apart
+    }
+
+    /// (The distance of codes is a power of two.)
     fn holds(&self, code: u16) -> bool {
-        code % self.apart == 0 && code >= self.first && (code - self.first) / self.apart <= self.last
+        code & (self.apart - 1) == 0 && code >= self.first && code - self.first <= self.span()
     }
 
     pub fn signal(&self, code: u16) -> f64 {
-        f64::from((code - self.first) / self.apart) / f64::from(self.last)
+        f64::from(code - self.first) / f64::from(self.span())
     }
 
     /// The nearest code of a signal, clipped to the first and the top code.

@@ -97,7 +97,7 @@ fn code_not_divisible(kind: &Kind, setting: &Setting, record: &[u8]) -> String {
     let step: i64 = setting.width().map_or(1, |width| width.step).into();
     match CHANNELS.iter().zip(kind.numbers(record)).find(|(_, code)| code % step != 0) {
         Some((channel, code)) => format!("{} code {} is not a multiple of {}", channel, code, step),
-        None => "a code is not a multiple of the distance of codes".to_string(),
+        None => "a code is not one of its width's".to_string(),
     }
 }
 

@@ -3,17 +3,26 @@
 use crate::library;
 use std::fmt;
 
-/// A width's byte, and its codes: from the lowest to the highest by a step.
+/// A width's byte, and its codes: from the lowest to the highest by a step. The highest is given, or is a step times the top code of some
+/// bits.
 pub struct Width {
     pub byte: u8,
     pub lowest: u16,
-    highest: Option<u16>, // None: the top code of as many bits as the byte says
+    highest: Highest,
     pub step: u16,
+}
+
+enum Highest {
+    Code(u16),
+    Bits(u8),
 }
 
 impl Width {
     pub fn highest(&self) -> u16 {
-        self.highest.unwrap_or_else(|| library::top_code(self.byte))
+        match self.highest {
+            Highest::Code(code) => code,
+            Highest::Bits(bits) => self.step * library::top_code(bits),
+        }
     }
 }
 
@@ -28,14 +37,14 @@ pub struct Curve {
 
 /// The full range of a width in bits.
 const fn full(bits: u8) -> Width {
-    Width { byte: bits, lowest: 0, highest: None, step: 1 }
+    Width { byte: bits, lowest: 0, highest: Highest::Bits(bits), step: 1 }
 }
 
-/// The legal range of 12 bits, as recorders write it.
-const LEGAL: Width = Width { byte: 140, lowest: 256, highest: Some(3760), step: 1 };
+/// The legal range of 12 bits.
+const LEGAL: Width = Width { byte: 140, lowest: 256, highest: Highest::Code(3760), step: 1 };
 
 /// 16 bits of LogC4 as recorders write them: the 12-bit code times 16.
-const RECORDER: Width = Width { byte: 16, lowest: 0, highest: Some(16 * 4095), step: 16 };
+const RECORDER: Width = Width { byte: 16, lowest: 0, highest: Highest::Bits(12), step: 16 };
 
 /// Those with a published formula.
 const EIS: &[u16] = &[160, 200, 250, 320, 400, 500, 640, 800, 1000, 1280, 1600];
