@@ -1,5 +1,5 @@
--- The codes of a setting and their steps: a code that passes is the code of its step, and a step's code passes. Only `laid` sees which codes
--- a curve and a width have; what follows is of any first code and any distance between codes.
+-- The codes of a setting and their steps: a code that passes is the code of its step, and a step's code passes. Here only `laid` sees which
+-- codes a curve and a width have; what follows is of any distance between codes, and any first code that it divides.
 -- Assumes nothing.
 use mathlib.Core.Bool.{Bool, true, false}
 use mathlib.Core.Path.{_≡_, refl, ap, _∙_}
