@@ -16,7 +16,7 @@ use Rattle.aces_inverse.specs.Reach.{InReach}
 use Rattle.aces_inverse.proofs.Inverse.{aces-small}
 use Rattle.decode.proofs.Distance.{decoded-small}
 use Rattle.record_conversion.specs.Conversions.{pixelToAces}
-use Rattle.record_conversion.proofs.Channels.{all-pass}
+use Rattle.rules.proofs.Channels.{all-pass}
 use Rattle.lister_line.specs.Line.{longest}
 use Rattle.lister_line.proofs.Lengths.{aces-long, refused-long}
 use Rattle.lister_text.specs.Listed.{outcomeOf, lines}

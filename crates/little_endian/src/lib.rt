@@ -4,10 +4,12 @@ ghost use Prim.Native.Nat.{_+_, _≤_, _<_};
 ghost use lib.ListN.{length, take, drop};
 ghost use Rattle.rules.specs.Record.{value, digits, toBits, ofBits, numberBytes};
 
-// The bytes of a code, and of a signed number.
+// The bytes of a code, of a signed number, and of a half float.
 pub const CODE_BYTES: usize = 2;
 
 pub const NUMBER_BYTES: usize = 8;
+
+pub const HALF_BYTES: usize = 2;
 
 fn wide(x: u8) -> u16
     ensures { λ r. ⌜ (r ≡ x) × (r < 256) ⌝ }
@@ -21,7 +23,7 @@ fn wider(x: u8) -> u64
     x as u64
 }
 
-// The number of two bytes: a code, or an EI.
+// The number of two bytes: a code, a half float's bits, or an EI.
 pub fn u16_at(r: &[u8], at: usize) -> u16
     requires { ⌜ at + 2 ≤ length (now r) ⌝ }
     ensures { λ n. ⌜ n ≡ value (take 2 (drop at (now (r .entry)))) ⌝ }

@@ -28,7 +28,7 @@ use Rattle.decode.proofs.Distance.{decoded-small}
 use Rattle.way_back.specs.Back.{pixelFor}
 use Rattle.way_back.proofs.Theorems.{found-gives, own-found, one-pixel}
 use Rattle.record_conversion.specs.Conversions.{pixelToAces, acesToPixel}
-use Rattle.record_conversion.proofs.Channels.{codes-pixel}
+use Rattle.rules.proofs.Channels.{codes-pixel}
 use Rattle.record_conversion.proofs.Good.{Good}
 use Rattle.record_conversion.proofs.SceneBits.{small-fits}
 use Rattle.promise.specs.Words.{given, HoldsPixel, Without, OnlyPixel, refusalOf}

@@ -137,8 +137,8 @@ way-back-returns pixels output n a room =
     rw (aces-strip-records pixels n a)
     (called acesToPixel (written (pixelToAces .bytes) (records pixelSize n pixels)) output n (pixels ++ drop (length pixels) output)
     (back.whole-done acesToPixel (written (pixelToAces .bytes) (records pixelSize n pixels)) output n (lit< tt)
-    (back.back-whole pixelToAces aces-long acesToPixel taken-back pixels (acesStrip pixels) n (a .bytes) w output room))
-    (back.back-written pixelToAces aces-long acesToPixel taken-back pixels (acesStrip pixels) n (a .bytes) w output))
+    (back.back-whole pixelToAces aces-long acesToPixel (λ r. r) taken-back pixels (acesStrip pixels) n (a .bytes) w output room))
+    (back.itself-written pixelToAces aces-long acesToPixel taken-back pixels (acesStrip pixels) output n (a .bytes) w))
 
 refusal-positive : (s : Setting) → 0 < refusalOf s
 refusal-positive s = go (acesCheck s)

@@ -1,35 +1,34 @@
 -- Conversions channel by channel: what is read of a record that one of them wrote. And two of them,
--- of which the second takes back each channel: then it takes back each record.
+-- of which the second takes what the first wrote for a channel to what `back` says: then it does so with each record.
 -- Assumes nothing.
 use mathlib.Core.Path.{_≡_, ap}
 use mathlib.Core.List.{List}
-use Prim.Native.Nat.{ℕ, zero, suc, _^_, _<_}
+use Prim.Native.Nat.{ℕ, zero, suc, _+_, _*_, _^_, _<_}
 use native.Mathlib.Omega.{arith}
 use lib.Dec.{lit<}
 use lib.ListN.{drop}
 use Rattle.rules.specs.declared.Check.{Check}
 use Rattle.rules.specs.declared.Check.the-variants.{Passed}
 use Rattle.rules.specs.declared.Setting.{Setting}
-use Rattle.rules.specs.Setting.{settingCheck, Valid}
-use Rattle.rules.specs.Record.{settingOf, Channels, channelAt, channelsOf, recordOf}
+use Rattle.rules.specs.Record.{settingBytes, settingOf, Channels, channelAt, channelsOf, recordOf}
 use Rattle.rules.specs.Strip.{recordCheck}
-use Rattle.rules.proofs.Records.{FitsRecord, value-small, drop-bytes, read-setting, read-channels, write-read}
+use Rattle.rules.proofs.Records.{FitsRecord, value-small, drop-bytes, read-setting, read-channels}
 use Rattle.rules.proofs.Settings.{both}
-use Rattle.record_conversion.proofs.Channels.{all-pass}
+use Rattle.rules.proofs.Channels.{all-pass}
 use Rattle.record_conversion.proofs.Good.{Good}
-use Rattle.rules.specs.Conversions.{channelChecks, channelwise}
+use Rattle.rules.specs.Conversions.{channelChecks, eachChannel, channelwise}
 
 -- ---- what is read of what was written, where each channel that passes fits
-module _ (a b : ℕ) (check : Setting → ℕ → Check) (one : Setting → ℕ → ℕ) (fits : (s : Setting) → Valid s → (u : ℕ) → check s u ≡ Passed → one s u < 256 ^ b)
-    (r : List ℕ) (g : Good (channelwise a b check one) r) where
+module _ (setting : Setting → Check) (a b : ℕ) (check : Setting → ℕ → Check) (one : Setting → ℕ → ℕ)
+    (fits : (s : Setting) → setting s ≡ Passed → (u : ℕ) → u < 256 ^ a → check s u ≡ Passed → one s u < 256 ^ b) (r : List ℕ) (g : Good (channelwise setting a b check one) r) where
   abbrev written : Channels
   written = record { red = one (settingOf r) (channelAt a r 0); green = one (settingOf r) (channelAt a r 1); blue = one (settingOf r) (channelAt a r 2) }
 
-  parts : Valid (settingOf r) × (channelChecks a (check (settingOf r)) r ≡ Passed)
-  parts = both (settingCheck (settingOf r)) (channelChecks a (check (settingOf r)) r) (g .passes)
+  parts : (setting (settingOf r) ≡ Passed) × (channelChecks a (check (settingOf r)) r ≡ Passed)
+  parts = both (setting (settingOf r)) (channelChecks a (check (settingOf r)) r) (g .passes)
 
-  pub setting-valid : Valid (settingOf r)
-  setting-valid = parts .0
+  pub setting-passes : setting (settingOf r) ≡ Passed
+  setting-passes = parts .0
 
   -- each channel passes
   pub channel-passes : (i : ℕ) → i < 3 → check (settingOf r) (channelAt a r i) ≡ Passed
@@ -38,8 +37,11 @@ module _ (a b : ℕ) (check : Setting → ℕ → Check) (one : Setting → ℕ 
   channel-passes (suc (suc zero)) h = all-pass a (check (settingOf r)) r (parts .1) .blue
   channel-passes (suc (suc (suc i))) h = absurd (omega arith)
 
+  pub channel-small : (i : ℕ) → channelAt a r i < 256 ^ a
+  channel-small i = value-small a (drop (settingBytes + i * a) r) (drop-bytes (settingBytes + i * a) r (g .bytes))
+
   fits-at : (i : ℕ) → i < 3 → one (settingOf r) (channelAt a r i) < 256 ^ b
-  fits-at i h = fits (settingOf r) setting-valid (channelAt a r i) (channel-passes i h)
+  fits-at i h = fits (settingOf r) setting-passes (channelAt a r i) (channel-small i) (channel-passes i h)
 
   fits-record : FitsRecord b (settingOf r) written
   fits-record =
@@ -53,7 +55,7 @@ module _ (a b : ℕ) (check : Setting → ℕ → Check) (one : Setting → ℕ 
       }
 
   -- in each channel stands what is made of that channel
-  pub channel-written : (i : ℕ) → i < 3 → channelAt b (channelwise a b check one .bytes r) i ≡ one (settingOf r) (channelAt a r i)
+  pub channel-written : (i : ℕ) → i < 3 → channelAt b (channelwise setting a b check one .bytes r) i ≡ one (settingOf r) (channelAt a r i)
   channel-written i h = at i h (read-channels b (settingOf r) written fits-record)
     where
       at : (i : ℕ) → i < 3 → channelsOf b (recordOf b (settingOf r) written) ≡ written → channelAt b (recordOf b (settingOf r) written) i ≡ one (settingOf r) (channelAt a r i)
@@ -63,42 +65,41 @@ module _ (a b : ℕ) (check : Setting → ℕ → Check) (one : Setting → ℕ 
       at (suc (suc (suc i))) h e = absurd (omega arith)
 
   -- "A conversion copies the setting."
-  pub setting-copied : settingOf (channelwise a b check one .bytes r) ≡ settingOf r
+  pub setting-copied : settingOf (channelwise setting a b check one .bytes r) ≡ settingOf r
   setting-copied = read-setting b (settingOf r) written fits-record
 
--- ---- a second conversion takes back each channel
-module _ (a b : ℕ) (check check′ : Setting → ℕ → Check) (one two : Setting → ℕ → ℕ) where
+-- ---- a second conversion
+module _ (setting : Setting → Check) (a b : ℕ) (check check′ : Setting → ℕ → Check) (one two back : Setting → ℕ → ℕ) where
   -- what is written for a channel fits, passes, and is taken back
   pub record TakenBack (s : Setting) (u : ℕ) : Type 0 where
     pub fits : one s u < 256 ^ b
     pub passes : check′ s (one s u) ≡ Passed
-    pub returns : two s (one s u) ≡ u
+    pub returns : two s (one s u) ≡ back s u
 
-  module _ (each : (s : Setting) → Valid s → (u : ℕ) → check s u ≡ Passed → TakenBack s u) (r : List ℕ) (g : Good (channelwise a b check one) r) where
-    fits-each : (s : Setting) → Valid s → (u : ℕ) → check s u ≡ Passed → one s u < 256 ^ b
-    fits-each s v u e = each s v u e .fits
+  module _ (each : (s : Setting) → setting s ≡ Passed → (u : ℕ) → u < 256 ^ a → check s u ≡ Passed → TakenBack s u) (r : List ℕ) (g : Good (channelwise setting a b check one) r) where
+    fits-each : (s : Setting) → setting s ≡ Passed → (u : ℕ) → u < 256 ^ a → check s u ≡ Passed → one s u < 256 ^ b
+    fits-each s v u l e = each s v u l e .fits
 
     abbrev there : List ℕ
-    there = channelwise a b check one .bytes r
+    there = channelwise setting a b check one .bytes r
 
-    valid : Valid (settingOf r)
-    valid = setting-valid a b check one fits-each r g
+    valid : setting (settingOf r) ≡ Passed
+    valid = setting-passes setting a b check one fits-each r g
 
     same-setting : settingOf there ≡ settingOf r
-    same-setting = setting-copied a b check one fits-each r g
+    same-setting = setting-copied setting a b check one fits-each r g
 
     same-channel : (i : ℕ) → i < 3 → channelAt b there i ≡ one (settingOf r) (channelAt a r i)
-    same-channel = channel-written a b check one fits-each r g
+    same-channel = channel-written setting a b check one fits-each r g
 
     taken : (i : ℕ) → i < 3 → TakenBack (settingOf r) (channelAt a r i)
-    taken i h = each (settingOf r) valid (channelAt a r i) (channel-passes a b check one fits-each r g i h)
+    taken i h = each (settingOf r) valid (channelAt a r i) (channel-small setting a b check one fits-each r g i) (channel-passes setting a b check one fits-each r g i h)
 
-    pub record-passes : recordCheck (channelwise b a check′ two) there ≡ Passed
+    pub record-passes : recordCheck (channelwise setting b a check′ two) there ≡ Passed
     unfolding channelChecks
     record-passes =
         rw (same-setting, valid, same-channel 0 (lit< tt), taken 0 (lit< tt) .passes, same-channel 1 (lit< tt), taken 1 (lit< tt) .passes, same-channel 2 (lit< tt), taken 2 (lit< tt) .passes)
 
-    pub record-back : channelwise b a check′ two .bytes there ≡ r
+    pub record-back : channelwise setting b a check′ two .bytes there ≡ eachChannel a a (settingOf r) (back (settingOf r)) r
     record-back =
         rw (same-setting, same-channel 0 (lit< tt), same-channel 1 (lit< tt), same-channel 2 (lit< tt), taken 0 (lit< tt) .returns, taken 1 (lit< tt) .returns, taken 2 (lit< tt) .returns)
-        (write-read a r (g .bytes) (g .long))

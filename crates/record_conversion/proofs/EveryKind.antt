@@ -8,12 +8,12 @@ use lib.Dec.{lit≤}
 use lib.ListN.{length}
 use Rattle.rules.specs.declared.Check.the-variants.{Passed}
 use Rattle.rules.specs.declared.Setting.{Setting}
-use Rattle.rules.specs.Record.{settingOf, settingBytes, codeBytes, numberBytes}
+use Rattle.rules.specs.Record.{settingOf, settingBytes, codeBytes, numberBytes, halfBytes}
 use Rattle.rules.specs.Setting.{Valid}
 use Rattle.rules.proofs.Records.{length-record}
 use Rattle.rules.proofs.Settings.{aces-valid}
 use Rattle.record_conversion.specs.declared.Kind.{Kind}
-use Rattle.record_conversion.specs.declared.Kind.the-variants.{PixelToScene, SceneToPixel, PixelToAces, AcesToPixel}
+use Rattle.record_conversion.specs.declared.Kind.the-variants.{PixelToScene, SceneToPixel, PixelToAces, AcesToPixel, AcesToHalf, HalfToAces}
 use Rattle.record_conversion.specs.Conversions.{conversionOf}
 
 pub kind-valid : (k : Kind) (s : Setting) → conversionOf k .setting s ≡ Passed → Valid s
@@ -21,15 +21,21 @@ kind-valid PixelToScene s e = e
 kind-valid SceneToPixel s e = e
 kind-valid PixelToAces s e = aces-valid s e
 kind-valid AcesToPixel s e = aces-valid s e
+kind-valid AcesToHalf s e = aces-valid s e
+kind-valid HalfToAces s e = aces-valid s e
 
 pub from-large : (k : Kind) → settingBytes ≤ conversionOf k .from
 from-large PixelToScene = lit≤ tt
 from-large SceneToPixel = lit≤ tt
 from-large PixelToAces = lit≤ tt
 from-large AcesToPixel = lit≤ tt
+from-large AcesToHalf = lit≤ tt
+from-large HalfToAces = lit≤ tt
 
 pub kind-long : (k : Kind) (r : List ℕ) → length (conversionOf k .bytes r) ≡ conversionOf k .to
 kind-long PixelToScene r = length-record numberBytes (settingOf r) _
 kind-long SceneToPixel r = length-record codeBytes (settingOf r) _
 kind-long PixelToAces r = length-record numberBytes (settingOf r) _
 kind-long AcesToPixel r = length-record codeBytes (settingOf r) _
+kind-long AcesToHalf r = length-record halfBytes (settingOf r) _
+kind-long HalfToAces r = length-record numberBytes (settingOf r) _

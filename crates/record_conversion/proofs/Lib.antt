@@ -1,4 +1,3 @@
-pub mod Channels
 pub mod EveryKind
 pub mod Good
 pub mod Channelwise

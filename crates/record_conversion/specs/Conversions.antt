@@ -9,7 +9,7 @@ use Rattle.rules.specs.Conversions as rules
 use Rattle.rules.specs.Strip.{Conversion}
 use Rattle.decode.specs.Decoded.{decoded}
 use Rattle.record_conversion.specs.declared.Kind.{Kind}
-use Rattle.record_conversion.specs.declared.Kind.the-variants.{PixelToScene, SceneToPixel, PixelToAces, AcesToPixel}
+use Rattle.record_conversion.specs.declared.Kind.the-variants.{PixelToScene, SceneToPixel, PixelToAces, AcesToPixel, AcesToHalf, HalfToAces}
 
 abbrev pub sceneBits : Setting → ℕ → ℕ
 sceneBits = rules.sceneBits decoded
@@ -35,6 +35,8 @@ conversionOf PixelToScene = pixelToScene
 conversionOf SceneToPixel = sceneToPixel
 conversionOf PixelToAces = pixelToAces
 conversionOf AcesToPixel = acesToPixel
+conversionOf AcesToHalf = rules.acesToHalf
+conversionOf HalfToAces = rules.halfToAces
 
 -- the stretch of a record after its check: what is written for it where it passes, else what stood there
 abbrev pub stretchAfter : Check → (bytes out : List ℕ) → List ℕ

@@ -6,12 +6,8 @@ ghost use Rattle.rules.specs.declared.Check.the-variants.{Passed};
 ghost use Rattle.rules.specs.Record.{settingOf};
 ghost use Rattle.decode.specs.Ready.{Ready};
 ghost use Rattle.record_conversion.specs.Conversions.{acesToPixel, conversionOf, stretchAfter};
-
-mod aces_record;
-mod pixel;
-mod scene;
-
 use decode::decoder::Decoder;
+use records::HALVES_SIZE;
 use records::NUMBERS_SIZE;
 use records::PIXEL_SIZE;
 use rules::Check;
@@ -19,12 +15,14 @@ use rules::Found;
 use rules::Refusal;
 use rules::Setting;
 
-// Which conversion.
+// Which conversion. (The order is for speed: docs/DECISIONS.md.)
 pub enum Kind {
-    PixelToScene,
-    SceneToPixel,
     PixelToAces,
     AcesToPixel,
+    PixelToScene,
+    SceneToPixel,
+    AcesToHalf,
+    HalfToAces,
 }
 
 // The bytes of a record, and of what is written for one.
@@ -32,10 +30,12 @@ pub fn size_from(k: Kind) -> usize
     ensures { λ r. ⌜ (r ≡ conversionOf k .from) × (0 < r) × (r < 100) ⌝ }
 {
     match k {
-        Kind::PixelToScene => PIXEL_SIZE,
-        Kind::SceneToPixel => NUMBERS_SIZE,
         Kind::PixelToAces => PIXEL_SIZE,
         Kind::AcesToPixel => NUMBERS_SIZE,
+        Kind::PixelToScene => PIXEL_SIZE,
+        Kind::SceneToPixel => NUMBERS_SIZE,
+        Kind::AcesToHalf => NUMBERS_SIZE,
+        Kind::HalfToAces => HALVES_SIZE,
     }
 }
 
@@ -43,10 +43,12 @@ pub fn size_to(k: Kind) -> usize
     ensures { λ r. ⌜ (r ≡ conversionOf k .to) × (0 < r) × (r < 100) ⌝ }
 {
     match k {
-        Kind::PixelToScene => NUMBERS_SIZE,
-        Kind::SceneToPixel => PIXEL_SIZE,
         Kind::PixelToAces => NUMBERS_SIZE,
         Kind::AcesToPixel => PIXEL_SIZE,
+        Kind::PixelToScene => NUMBERS_SIZE,
+        Kind::SceneToPixel => PIXEL_SIZE,
+        Kind::AcesToHalf => HALVES_SIZE,
+        Kind::HalfToAces => NUMBERS_SIZE,
     }
 }
 
@@ -55,10 +57,12 @@ pub fn check_setting(k: Kind, s: Setting) -> Check
     ensures { λ r. ⌜ r ≡ conversionOf k .setting s ⌝ }
 {
     match k {
-        Kind::PixelToScene => setting::check_setting(s),
-        Kind::SceneToPixel => setting::check_setting(s),
         Kind::PixelToAces => setting::check_for_aces(s),
         Kind::AcesToPixel => setting::check_for_aces(s),
+        Kind::PixelToScene => setting::check_setting(s),
+        Kind::SceneToPixel => setting::check_setting(s),
+        Kind::AcesToHalf => setting::check_for_aces(s),
+        Kind::HalfToAces => setting::check_for_aces(s),
     }
 }
 
@@ -69,10 +73,12 @@ pub fn check_inner(k: Kind, s: Setting, d: Decoder, t: &[u64; 128], r: &[u8]) ->
     ensures { λ x. ⌜ x ≡ conversionOf k .inner (now (r .entry)) ⌝ }
 {
     match k {
-        Kind::PixelToScene => pixel::check_codes(s, r),
-        Kind::SceneToPixel => scene::check_numbers(s, r),
-        Kind::PixelToAces => pixel::check_codes(s, r),
+        Kind::PixelToAces => pixel_record::check_codes(s, r),
         Kind::AcesToPixel => aces_record::check_triple(s, d, t, r),
+        Kind::PixelToScene => pixel_record::check_codes(s, r),
+        Kind::SceneToPixel => scene_record::check_numbers(s, r),
+        Kind::AcesToHalf => Check::Passed,
+        Kind::HalfToAces => half_record::check_halves(r),
     }
 }
 
@@ -84,10 +90,12 @@ pub fn write_record(k: Kind, s: Setting, d: Decoder, t: &[u64; 128], r: &[u8], o
     ensures { λ _. ⌜ now (out .exit) ≡ conversionOf k .bytes (now (r .entry)) ⌝ }
 {
     match k {
-        Kind::PixelToScene => pixel::write_scene(s, d, t, r, out),
-        Kind::SceneToPixel => scene::write_pixel(s, d, t, r, out),
         Kind::PixelToAces => aces_record::write_triple(s, d, t, r, out),
         Kind::AcesToPixel => aces_record::write_back(s, d, t, r, out),
+        Kind::PixelToScene => pixel_record::write_scene(s, d, t, r, out),
+        Kind::SceneToPixel => scene_record::write_pixel(s, d, t, r, out),
+        Kind::AcesToHalf => half_record::write_halves(s, r, out),
+        Kind::HalfToAces => half_record::write_units(s, r, out),
     }
 }
 

@@ -3,23 +3,27 @@ ghost use mathlib.Core.Path.{_≡_};
 ghost use mathlib.Core.List.{[], _∷_};
 ghost use Prim.Native.Nat.{_+_, _*_, _≤_, _<_};
 ghost use lib.ListN.{length};
-ghost use Rattle.rules.specs.Record.{bytesOf, settingOf, toBits, recordOf, pixelIn, pixelRecord, tripleIn, acesRecord, settingBytes, numberBytes, pixelSize, numbersSize};
+ghost use Rattle.rules.specs.Record.{bytesOf, settingOf, toBits, recordOf, pixelIn, pixelRecord, tripleIn, acesRecord, settingBytes, numberBytes, codeBytes, halfBytes, pixelSize, numbersSize, halvesSize};
 ghost use Rattle.rules.specs.Strip.{recordAt};
 use little_endian::CODE_BYTES;
+use little_endian::HALF_BYTES;
 use little_endian::NUMBER_BYTES;
 use rules::Aces;
 use rules::Code;
+use rules::Half;
 use rules::Pixel;
 use rules::Scene;
 use rules::Setting;
 use rules::Triple;
 
-// The bytes of a setting, of a pixel record, and of a scene record or an ACES record.
+// The bytes of a setting, of a pixel record, of a scene record or an ACES record, and of a half record.
 pub const SETTING_BYTES: usize = 4;
 
 pub const PIXEL_SIZE: usize = SETTING_BYTES + 3 * CODE_BYTES;
 
 pub const NUMBERS_SIZE: usize = SETTING_BYTES + 3 * NUMBER_BYTES;
+
+pub const HALVES_SIZE: usize = SETTING_BYTES + 3 * HALF_BYTES;
 
 // Where the green and the blue channel of each begin. The red one begins behind the setting.
 pub const GREEN_CODE: usize = SETTING_BYTES + CODE_BYTES;
@@ -29,6 +33,10 @@ pub const BLUE_CODE: usize = GREEN_CODE + CODE_BYTES;
 pub const GREEN_NUMBER: usize = SETTING_BYTES + NUMBER_BYTES;
 
 pub const BLUE_NUMBER: usize = GREEN_NUMBER + NUMBER_BYTES;
+
+pub const GREEN_HALF: usize = SETTING_BYTES + HALF_BYTES;
+
+pub const BLUE_HALF: usize = GREEN_HALF + HALF_BYTES;
 
 // A record of a strip, from 0.
 pub fn record_at(strip: &[u8], size: usize, i: usize) -> &[u8]
@@ -86,15 +94,31 @@ pub fn triple_in(r: &[u8]) -> Triple
     }
 }
 
-// A pixel record: the setting and each code in its own stretch.
+// A record with three numbers of two bytes, whatever they stand for: the setting and each number in its own stretch.
+fn put_words(out: &mut [u8], s: Setting, red: u16, green: u16, blue: u16)
+    requires { ⌜ length (now out) ≡ pixelSize ⌝ }
+    ensures { λ _. ⌜ now (out .exit) ≡ recordOf codeBytes s (record { red = red; green = green; blue = blue }) ⌝ }
+{
+    put_setting(&mut out[0..SETTING_BYTES], s);
+    little_endian::put_u16(&mut out[SETTING_BYTES..GREEN_CODE], red);
+    little_endian::put_u16(&mut out[GREEN_CODE..BLUE_CODE], green);
+    little_endian::put_u16(&mut out[BLUE_CODE..PIXEL_SIZE], blue);
+}
+
+// A pixel record.
 pub fn put_pixel(out: &mut [u8], s: Setting, p: Pixel)
     requires { ⌜ length (now out) ≡ pixelSize ⌝ }
     ensures { λ _. ⌜ now (out .exit) ≡ pixelRecord s p ⌝ }
 {
-    put_setting(&mut out[0..SETTING_BYTES], s);
-    little_endian::put_u16(&mut out[SETTING_BYTES..GREEN_CODE], p.red.0);
-    little_endian::put_u16(&mut out[GREEN_CODE..BLUE_CODE], p.green.0);
-    little_endian::put_u16(&mut out[BLUE_CODE..PIXEL_SIZE], p.blue.0);
+    put_words(out, s, p.red.0, p.green.0, p.blue.0);
+}
+
+// A half record.
+pub fn put_halves(out: &mut [u8], s: Setting, red: Half, green: Half, blue: Half)
+    requires { ⌜ length (now out) ≡ halvesSize ⌝ }
+    ensures { λ _. ⌜ now (out .exit) ≡ recordOf halfBytes s (record { red = red .0; green = green .0; blue = blue .0 }) ⌝ }
+{
+    put_words(out, s, red.0, green.0, blue.0);
 }
 
 // A record with three signed numbers, whatever they stand for.

@@ -3,6 +3,7 @@
 // declares them.
 ghost use mathlib.Core.Path.{_≡_};
 ghost use Rattle.record_conversion.specs.Conversions.{pixelToScene, sceneToPixel, pixelToAces, acesToPixel};
+ghost use Rattle.rules.specs.Conversions.{acesToHalf, halfToAces};
 ghost use Rattle.rules.specs.Result.{stripResult};
 ghost use Rattle.rules.specs.Setting.{topOf};
 ghost use Rattle.strip.specs.Lent.{LentBytes};
@@ -67,6 +68,24 @@ pub extern "C" fn ropeinstant_aces_to_pixel(input: &[u8], output: &mut [u8], at:
     ensures { λ _. ⌜ LentBytes (now (input .entry)) (now (output .entry)) (now (output .exit)) ⌝ }
 {
     give(strip::aces_to_pixel(input, output), at)
+}
+
+// A strip of ACES records to one of half records.
+#[no_mangle]
+pub extern "C" fn ropeinstant_aces_to_half(input: &[u8], output: &mut [u8], at: &mut u64) -> u32
+    ensures { λ n. ⌜ Gives acesToHalf (now (input .entry)) (now (output .entry)) n (now (at .exit)) (now (output .exit)) ⌝ }
+    ensures { λ _. ⌜ LentBytes (now (input .entry)) (now (output .entry)) (now (output .exit)) ⌝ }
+{
+    give(strip::aces_to_half(input, output), at)
+}
+
+// A strip of half records to one of ACES records.
+#[no_mangle]
+pub extern "C" fn ropeinstant_half_to_aces(input: &[u8], output: &mut [u8], at: &mut u64) -> u32
+    ensures { λ n. ⌜ Gives halfToAces (now (input .entry)) (now (output .entry)) n (now (at .exit)) (now (output .exit)) ⌝ }
+    ensures { λ _. ⌜ LentBytes (now (input .entry)) (now (output .entry)) (now (output .exit)) ⌝ }
+{
+    give(strip::half_to_aces(input, output), at)
 }
 
 // Decoding one pixel to floats.

@@ -8,7 +8,9 @@ pub mod Codes
 pub mod NotDivisible
 pub mod Recorder
 pub mod Records
+pub mod Channels
 pub mod Closest
 pub mod Search
 pub mod Results
 pub mod Between
+pub mod HalfExamples

@@ -30,9 +30,9 @@ use Rattle.rules.specs.Setting.{named, known, widthsOf, eisOf, hasMatrix
 use Rattle.rules.specs.Matrix.{noMatrix, matrixFor}
 use Rattle.rules.specs.Encoding.{codeBy, sceneCheck}
 use Rattle.rules.specs.Float.{finite, inRange, valueOf, floatOf, floatCheck, unitsOf}
-use Rattle.rules.specs.Record.{value, digits, bytesOf, settingOf, recordOf, channelAt, ofBits, codeBytes, numberBytes, pixelRecord, acesRecord}
+use Rattle.rules.specs.Record.{value, digits, bytesOf, settingOf, recordOf, channelAt, ofBits, codeBytes, numberBytes, halfBytes, pixelRecord, acesRecord}
 use Rattle.rules.specs.Strip.{Conversion, recordCheck, records, orNext, scan, scanOf, answerOf, resultOf}
-use Rattle.rules.specs.Conversions.{channelChecks, channelwise, numberCheck, sceneBits, codeBits, pixelToScene, sceneToPixel, pixelToAces, acesToPixel}
+use Rattle.rules.specs.Conversions.{channelChecks, channelwise, numberCheck, sceneBits, codeBits, pixelToScene, sceneToPixel, pixelToAces, acesToPixel, acesToHalf, halfToAces}
 use Rattle.rules.specs.Calls.{floatsCheck, decodeBy, encodeBy, decodeFloatsBy, encodeFloatsBy, wayBackBy}
 use Rattle.rules.proofs.Settings.{has-name, valid-named}
 
@@ -119,15 +119,26 @@ pixelOf width ei code = pixelRecord (record { curve = 2; width = width; ei = ei 
 abbrev acesRecordOf : (width ei : ℕ) → List ℕ
 acesRecordOf width ei = acesRecord (record { curve = 2; width = width; ei = ei }) (triple (pos 0) (pos 0) (pos 0))
 
+-- a half record with the red half h
+abbrev halfRecordOf : (width ei h : ℕ) → List ℕ
+halfRecordOf width ei h = recordOf halfBytes (record { curve = 2; width = width; ei = ei }) (record { red = h; green = 0; blue = 0 })
+
 pub record InPlace (number : Setting → ℕ → ℤ) : Type 0 where
   -- before the codes, and before 10
   pub codes-later : numberOfCheck (recordCheck (pixelToAces number) (pixelOf 12 800 4096)) ≡ 12
   pub back-ten-later : numberOfCheck (recordCheck (acesToPixel number) (acesRecordOf 12 800)) ≡ 12
+  pub to-half-too : numberOfCheck (recordCheck acesToHalf (acesRecordOf 12 800)) ≡ 12
+  -- before 8 (0x7C00 is an infinity)
+  pub half-eight-later : numberOfCheck (recordCheck halfToAces (halfRecordOf 12 800 0x7C00)) ≡ 12
   -- after 4 and 5
   pub width-first : numberOfCheck (recordCheck (pixelToAces number) (pixelOf 16 800 0)) ≡ 4
   pub ei-first : numberOfCheck (recordCheck (pixelToAces number) (pixelOf 12 0 0)) ≡ 5
   pub back-width-first : numberOfCheck (recordCheck (acesToPixel number) (acesRecordOf 16 800)) ≡ 4
   pub back-ei-first : numberOfCheck (recordCheck (acesToPixel number) (acesRecordOf 12 0)) ≡ 5
+  pub half-width-first : numberOfCheck (recordCheck halfToAces (halfRecordOf 16 800 0x7C00)) ≡ 4
+  pub half-ei-first : numberOfCheck (recordCheck halfToAces (halfRecordOf 12 0 0x7C00)) ≡ 5
+  pub to-half-width-first : numberOfCheck (recordCheck acesToHalf (acesRecordOf 16 800)) ≡ 4
+  pub to-half-ei-first : numberOfCheck (recordCheck acesToHalf (acesRecordOf 12 0)) ≡ 5
   -- not in decoding
   pub decoding-six : numberOfCheck (recordCheck (pixelToScene number) (pixelOf 12 800 4096)) ≡ 6
   pub decoding-passes : numberOfCheck (recordCheck (pixelToScene number) (pixelOf 12 800 4095)) ≡ 0
@@ -137,11 +148,17 @@ unfolding settingCheck acesCheck codesOf channelChecks recordOf bytesOf digits v
 in-place number =
     record {
       codes-later = refl;
+      to-half-too = refl;
+      half-eight-later = refl;
       back-ten-later = refl;
       width-first = refl;
       ei-first = refl;
       back-width-first = refl;
       back-ei-first = refl;
+      half-width-first = refl;
+      half-ei-first = refl;
+      to-half-width-first = refl;
+      to-half-ei-first = refl;
       decoding-six = refl;
       decoding-passes = refl;
     }
@@ -157,6 +174,12 @@ module _ (number : Setting → ℕ → ℤ) (s : Setting) (v : Valid s) (two : s
 
   pub aces-refused : (r : List ℕ) → settingOf r ≡ s → recordCheck (acesToPixel number) r ≡ Refused NoMatrix
   aces-refused r e = rw (e, no-matrix)
+
+  pub written-half-refused : (r : List ℕ) → settingOf r ≡ s → recordCheck acesToHalf r ≡ Refused NoMatrix
+  written-half-refused r e = rw (e, no-matrix)
+
+  pub read-half-refused : (r : List ℕ) → settingOf r ≡ s → recordCheck halfToAces r ≡ Refused NoMatrix
+  read-half-refused r e = rw (e, no-matrix)
 
   pub way-back-refused : (a : Triple) → wayBackBy number s a .number ≡ 12
   way-back-refused a = rw no-matrix
@@ -220,10 +243,10 @@ unfolding channelChecks
 channels-never a check h r =
     after-three (check (channelAt a r 0)) (check (channelAt a r 1)) (check (channelAt a r 2)) (h (channelAt a r 0)) (h (channelAt a r 1)) (h (channelAt a r 2))
 
--- a conversion channel by channel checks the setting by 3, 4 and 5
-channelwise-never : (a b : ℕ) (check : Setting → ℕ → Check) (one : Setting → ℕ → ℕ) → ((s : Setting) (u : ℕ) → OtherCheck (check s u)) → (input output : List ℕ) → resultOf (channelwise a b check one) input output .number ≡ 12 → ⊥
+-- a conversion channel by channel that checks the setting by 3, 4 and 5
+channelwise-never : (a b : ℕ) (check : Setting → ℕ → Check) (one : Setting → ℕ → ℕ) → ((s : Setting) (u : ℕ) → OtherCheck (check s u)) → (input output : List ℕ) → resultOf (channelwise settingCheck a b check one) input output .number ≡ 12 → ⊥
 channelwise-never a b check one h =
-    strip-never (channelwise a b check one)
+    strip-never (channelwise settingCheck a b check one)
     (λ r. after (settingCheck (settingOf r)) (channelChecks a (check (settingOf r)) r) (setting-never (settingOf r)) (channels-never a (check (settingOf r)) (h (settingOf r)) r))
 
 pub pixel-to-scene-never-twelve : (number : Setting → ℕ → ℤ) (input output : List ℕ) → resultOf (pixelToScene number) input output .number ≡ 12 → ⊥

@@ -1,10 +1,12 @@
 -- 01, "Records and settings": "The strip conversions are pixel to scene (decoding), scene to pixel (encoding), pixel to ACES, and ACES to pixel
--- (the way back).": what each checks of a record's setting, what it checks of the record after it, and what it writes. The numbers of the codes are a parameter.
+-- (the way back).", and 02, item 6: "strip conversions from ACES records" to half records "and back": what each checks of a record's setting, what it
+-- checks of the record after it, and what it writes. The numbers of the codes are a parameter.
 -- Assumes nothing.
 use mathlib.Core.List.{List}
 use Prim.Native.Nat.{ℕ}
 use lib.IntN.{ℤ}
 use Rattle.rules.specs.declared.Check.{Check}
+use Rattle.rules.specs.declared.Check.the-variants.{Passed}
 use Rattle.rules.specs.declared.Setting.{Setting}
 use Rattle.rules.specs.declared.Pixel.{Pixel}
 use Rattle.rules.specs.declared.Found.{Found}
@@ -13,7 +15,8 @@ use Rattle.rules.specs.Refusal.{then}
 use Rattle.rules.specs.Setting.{settingCheck, acesCheck, codeCheck}
 use Rattle.rules.specs.Encoding.{codeBy, sceneCheck}
 use Rattle.rules.specs.Pixels.{pixel, acesBy}
-use Rattle.rules.specs.Record.{toBits, ofBits, sizeOf, codeBytes, numberBytes, settingOf, channelAt, recordOf, pixelIn, pixelRecord, tripleIn, acesRecord}
+use Rattle.rules.specs.Record.{toBits, ofBits, sizeOf, codeBytes, numberBytes, halfBytes, settingOf, channelAt, recordOf, pixelIn, pixelRecord, tripleIn, acesRecord}
+use Rattle.rules.specs.Half.{halfOf, halfUnits, halfCheck}
 use Rattle.rules.specs.WayBack.{pixelBy, foundCheck}
 use Rattle.rules.specs.Strip.{Conversion}
 
@@ -25,13 +28,13 @@ channelChecks a check r = then (check (channelAt a r 0)) (then (check (channelAt
 abbrev pub eachChannel : (a b : ℕ) → Setting → (ℕ → ℕ) → List ℕ → List ℕ
 eachChannel a b s one r = recordOf b s (record { red = one (channelAt a r 0); green = one (channelAt a r 1); blue = one (channelAt a r 2) })
 
--- channel by channel: a channel's check, and what a channel becomes. "A conversion copies the setting."
-abbrev pub channelwise : (a b : ℕ) (check : Setting → ℕ → Check) (one : Setting → ℕ → ℕ) → Conversion
-channelwise a b check one =
+-- channel by channel: the setting's checks, a channel's check, and what a channel becomes. "A conversion copies the setting."
+abbrev pub channelwise : (setting : Setting → Check) (a b : ℕ) (check : Setting → ℕ → Check) (one : Setting → ℕ → ℕ) → Conversion
+channelwise setting a b check one =
     record {
       from = sizeOf a;
       to = sizeOf b;
-      setting = settingCheck;
+      setting = setting;
       inner = λ r. channelChecks a (check (settingOf r)) r;
       bytes = λ r. eachChannel a b (settingOf r) (one (settingOf r)) r;
     }
@@ -39,6 +42,26 @@ channelwise a b check one =
 -- refusal 7, of the bits of a number
 abbrev pub numberCheck : Setting → ℕ → Check
 numberCheck s u = sceneCheck (ofBits numberBytes u)
+
+-- ACES to half: "each ACES number to the nearest finite half". Nothing of a channel is checked
+abbrev pub noCheck : Setting → ℕ → Check
+noCheck s u = Passed
+
+abbrev pub halfBits : Setting → ℕ → ℕ
+halfBits s u = halfOf (ofBits numberBytes u)
+
+abbrev pub acesToHalf : Conversion
+acesToHalf = channelwise acesCheck numberBytes halfBytes noCheck halfBits
+
+-- half to ACES: "Reading is exact", and "refuses infinities and NaN by 8"
+abbrev pub finiteCheck : Setting → ℕ → Check
+finiteCheck s h = halfCheck h
+
+abbrev pub unitBits : Setting → ℕ → ℕ
+unitBits s h = toBits numberBytes (halfUnits h)
+
+abbrev pub halfToAces : Conversion
+halfToAces = channelwise acesCheck halfBytes numberBytes finiteCheck unitBits
 
 -- what is written for what was found (nothing is where there is none: refusal 10)
 abbrev pub pixelFound : Found → Pixel
@@ -52,14 +75,14 @@ module _ (number : Setting → ℕ → ℤ) where
   sceneBits s n = toBits numberBytes (number s n)
 
   abbrev pub pixelToScene : Conversion
-  pixelToScene = channelwise codeBytes numberBytes codeCheck sceneBits
+  pixelToScene = channelwise settingCheck codeBytes numberBytes codeCheck sceneBits
 
   -- "scene to pixel (encoding)"
   abbrev pub codeBits : Setting → ℕ → ℕ
   codeBits s u = codeBy number s (ofBits numberBytes u)
 
   abbrev pub sceneToPixel : Conversion
-  sceneToPixel = channelwise numberBytes codeBytes numberCheck codeBits
+  sceneToPixel = channelwise settingCheck numberBytes codeBytes numberCheck codeBits
 
   -- "pixel to ACES": a pixel "gives the ACES record that holds this setting and the pixel's three ACES numbers"
   abbrev pub pixelToAces : Conversion

@@ -28,9 +28,11 @@ pub mod Pixels
 pub mod WayBack
 -- records as bytes, and what they hold
 pub mod Record
+-- halves: the value of one, reading, writing, the nearest
+pub mod Half
 -- strips: the answer and the output of any conversion
 pub mod Strip
--- the four conversions
+-- the conversions
 pub mod Conversions
 -- floats: exact values, checks, the nearest unit
 pub mod Float

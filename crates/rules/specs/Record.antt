@@ -60,11 +60,18 @@ codeBytes = 2
 abbrev pub numberBytes : ℕ
 numberBytes = 8
 
+-- 02, item 6: "a half record of 10 bytes: the setting and three halves"
+abbrev pub halfBytes : ℕ
+halfBytes = 2
+
 abbrev pub pixelSize : ℕ
 pixelSize = sizeOf codeBytes
 
 abbrev pub numbersSize : ℕ
 numbersSize = sizeOf numberBytes
+
+abbrev pub halvesSize : ℕ
+halvesSize = sizeOf halfBytes
 
 -- a record's setting and its channels
 abbrev pub settingOf : List ℕ → Setting

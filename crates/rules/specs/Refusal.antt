@@ -23,7 +23,7 @@ numberOf UnknownEi = 5
 numberOf CodeAboveTop = 6
 -- channel: scene number to encode outside -2^40 to 2^40
 numberOf SceneOutOfRange = 7
--- channel: float infinite or not a number
+-- channel: float infinite or not a number; 02, item 6, of reading halves: "it refuses infinities and NaN by 8"
 numberOf FloatNotFinite = 8
 -- channel: float below -65,536 or above 65,536
 numberOf FloatOutOfRange = 9

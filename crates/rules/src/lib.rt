@@ -27,6 +27,9 @@ pub struct Scene(pub i64);
 // An ACES number, in units of 2^-24.
 pub struct Aces(pub i64);
 
+// A half float, its 16 bits.
+pub struct Half(pub u16);
+
 // A pixel: its three codes.
 pub struct Pixel {
     pub red: Code,

@@ -72,7 +72,7 @@ fn check_matrix(s: Setting) -> Check
 }
 
 // The second check's answer where the first passes.
-fn first_refusal(first: Check, second: Check) -> Check
+pub fn first_refusal(first: Check, second: Check) -> Check
     ensures { λ r. ⌜ r ≡ then first second ⌝ }
 {
     match first {

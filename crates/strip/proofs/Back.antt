@@ -1,11 +1,11 @@
--- Two conversions of which the second takes back what the first does, record by record: then the second takes back what the first does
--- to a strip; and two strips that the first writes alike are one.
+-- Two conversions of which the second takes what the first writes back, record by record, to what `f` makes of the record: then it takes what
+-- the first writes of a strip back so. Where that is the record itself, the strip comes back, and two strips that the first writes alike are one.
 -- Assumes nothing.
 use mathlib.Core.Path.{_≡_, refl, ap, sym, _∙_}
 use mathlib.Core.Bool.{Bool, true, false}
 use mathlib.Core.Logic.{_↔_}
 use mathlib.Core.List.{List, [], _∷_, _++_, append-assoc, append-nil, map}
-use Prim.Native.Nat.{ℕ, zero, suc, _+_, _-_, _*_, _/_, _%_, _≤_, _<_}
+use Prim.Native.Nat.{ℕ, zero, suc, _+_, _*_, _/_, _%_, _≤_, _<_}
 use native.Mathlib.Nat.{zero-mul, suc-mul, add-zero, add-suc, suc-add, div-add-mod'}
 use native.Mathlib.Omega.{arith}
 use borrow.Author.Tests.{eqb-true, leb-true}
@@ -89,42 +89,47 @@ module _ (c : Conversion) (input output : List ℕ) (n : ℕ) where
   pub whole-done : 0 < c .from → Whole c input output n → Done n ≡ answerOf c input output
   whole-done p w = w .passes ∙ sym (whole-answer c input output n p (w .long) (w .room))
 
+-- the records of a whole strip, one after the other, are the strip
+pub whole-strip : (size n : ℕ) (s : List ℕ) → length s ≡ n * size → written (λ r. r) (records size n s) ≡ s
+whole-strip size n s e = rw (written-records size n s, ← e, take-length)
+
 -- ---- a second conversion takes back what the first does, record by record
 
 -- a conversion d of what c writes to records as c reads them
 abbrev pub reverse : (c d : Conversion) → Conversion
 reverse c d = record { from = c .to; to = c .from; setting = d .setting; inner = d .inner; bytes = d .bytes }
 
-module _ (c : Conversion) (long : (r : List ℕ) → length (c .bytes r) ≡ c .to) (d : Conversion)
-    (back : (r : List ℕ) → Good c r → (recordCheck (reverse c d) (c .bytes r) ≡ check.Check.Passed) × (d .bytes (c .bytes r) ≡ r)) where
+-- what a conversion writes of a strip
+abbrev pub image : Conversion → List ℕ → ℕ → List ℕ
+image c input n = written (c .bytes) (records (c .from) n input)
+
+-- it begins the output
+pub image-is : (c : Conversion) → ((r : List ℕ) → length (c .bytes r) ≡ c .to) → (input output : List ℕ) (n : ℕ)
+    → take (n * c .to) (outputAfter c input output (Done n)) ≡ image c input n
+unfolding outputAfter
+image-is c long input output n = take-at (image c input n) _ (n * c .to) (length-written (c .bytes) (c .to) long (c .from) n input)
+
+module _ (c : Conversion) (long : (r : List ℕ) → length (c .bytes r) ≡ c .to) (d : Conversion) (f : List ℕ → List ℕ)
+    (back : (r : List ℕ) → Good c r → (recordCheck (reverse c d) (c .bytes r) ≡ check.Check.Passed) × (d .bytes (c .bytes r) ≡ f r)) where
   scan-back : (rs : List (List ℕ)) (k : ℕ) → AllGood c rs → Done (k + length rs) ≡ scan (recordCheck (reverse c d)) k (map (c .bytes) rs)
   unfolding scan
   scan-back [] k g = rw add-zero
   scan-back (r ∷ rs) k g = rw (back r (g .0) .0, add-suc, ← suc-add) (scan-back rs (suc k) (g .1))
 
-  written-back : (rs : List (List ℕ)) → AllGood c rs → written (d .bytes) (map (c .bytes) rs) ≡ written (λ r. r) rs
+  written-back : (rs : List (List ℕ)) → AllGood c rs → written (d .bytes) (map (c .bytes) rs) ≡ written f rs
   unfolding written
   written-back [] g = refl
   written-back (r ∷ rs) g = rw (back r (g .0) .1, written-back rs (g .1))
-
-  -- what the first conversion writes of a strip
-  abbrev pub image : List ℕ → ℕ → List ℕ
-  image input n = written (c .bytes) (records (c .from) n input)
 
   module _ (input output : List ℕ) (n : ℕ) (h : IsBytes input) (w : Whole c input output n) where
     good : AllGood c (records (c .from) n input)
     good = good-records c n input 0 n (omega (arith, w .long)) h (w .passes)
 
-    again : records (c .to) n (image input n) ≡ map (c .bytes) (records (c .from) n input)
-    again = ap (λ (l : List ℕ). records (c .to) n l) (sym (append-nil (image input n))) ∙ records-written (c .bytes) (c .to) long (c .from) n input []
-
-    -- it begins the output
-    pub image-is : take (n * c .to) (outputAfter c input output (Done n)) ≡ image input n
-    unfolding outputAfter
-    image-is = take-at (image input n) _ (n * c .to) (length-written (c .bytes) (c .to) long (c .from) n input)
+    again : records (c .to) n (image c input n) ≡ map (c .bytes) (records (c .from) n input)
+    again = ap (λ (l : List ℕ). records (c .to) n l) (sym (append-nil (image c input n))) ∙ records-written (c .bytes) (c .to) long (c .from) n input []
 
     -- the second conversion accepts it whole, where it has room for the first's input
-    pub back-whole : (other : List ℕ) → length input ≤ length other → Whole (reverse c d) (image input n) other n
+    pub back-whole : (other : List ℕ) → length input ≤ length other → Whole (reverse c d) (image c input n) other n
     back-whole other room =
         record {
           long = length-written (c .bytes) (c .to) long (c .from) n input;
@@ -136,26 +141,43 @@ module _ (c : Conversion) (long : (r : List ℕ) → length (c .bytes r) ≡ c .
               ∙ ap (λ (l : List (List ℕ)). scan (recordCheck (reverse c d)) 0 l) (sym again);
         }
 
-    -- and writes the first's input
-    pub back-written : (other : List ℕ) → outputAfter (reverse c d) (image input n) other (Done n) ≡ input ++ drop (length input) other
+    -- and writes what f makes of the first's input
+    pub back-written : (other : List ℕ) → outputAfter (reverse c d) (image c input n) other (Done n) ≡ written f (records (c .from) n input) ++ drop (length input) other
     unfolding outputAfter
-    back-written other = rw (again, written-back _ good, written-records, ← w .long, take-length)
+    back-written other = rw (again, written-back _ good, ← w .long)
+
+  -- THE TWO CONVERSIONS, one after the other
+  pub round-trip-to : 0 < c .to → (input output other : List ℕ) (n : ℕ) → IsBytes input → Done n ≡ answerOf c input output → length input ≤ length other
+      → (Done n ≡ answerOf (reverse c d) (take (n * c .to) (outputAfter c input output (Done n))) other)
+      × (outputAfter (reverse c d) (take (n * c .to) (outputAfter c input output (Done n))) other (Done n) ≡ written f (records (c .from) n input) ++ drop (length input) other)
+  round-trip-to p input output other n h e room =
+      let w = done-whole c input output n e in
+      rw (image-is c long input output n)
+      (whole-done (reverse c d) (image c input n) other n p (back-whole input output n h w other room), back-written input output n h w other)
+
+-- ---- to the record itself
+module _ (c : Conversion) (long : (r : List ℕ) → length (c .bytes r) ≡ c .to) (d : Conversion)
+    (back : (r : List ℕ) → Good c r → (recordCheck (reverse c d) (c .bytes r) ≡ check.Check.Passed) × (d .bytes (c .bytes r) ≡ r)) where
+  -- and writes the first's input
+  pub itself-written : (input output other : List ℕ) (n : ℕ) → IsBytes input → Whole c input output n
+      → outputAfter (reverse c d) (image c input n) other (Done n) ≡ input ++ drop (length input) other
+  itself-written input output other n h w =
+      back-written c long d (λ r. r) back input output n h w other ∙ ap (λ (l : List ℕ). l ++ drop (length input) other) (whole-strip (c .from) n input (w .long))
 
   -- THE TWO CONVERSIONS, one after the other, give the strip back
   pub round-trip : 0 < c .to → (input output other : List ℕ) (n : ℕ) → IsBytes input → Done n ≡ answerOf c input output → length input ≤ length other
       → (Done n ≡ answerOf (reverse c d) (take (n * c .to) (outputAfter c input output (Done n))) other)
       × (outputAfter (reverse c d) (take (n * c .to) (outputAfter c input output (Done n))) other (Done n) ≡ input ++ drop (length input) other)
   round-trip p input output other n h e room =
-      let w = done-whole c input output n e in
-      rw (image-is input output n h w)
-      (whole-done (reverse c d) (image input n) other n p (back-whole input output n h w other room), back-written input output n h w other)
+      let t = round-trip-to c long d (λ r. r) back p input output other n h e room in
+      (t .0, t .1 ∙ ap (λ (l : List ℕ). l ++ drop (length input) other) (whole-strip (c .from) n input (done-whole c input output n e .long)))
 
   -- two strips that are converted whole are one where what is written of them is one
   pub same-strip : (input input′ output output′ : List ℕ) (n : ℕ) → IsBytes input → IsBytes input′ → Whole c input output n → Whole c input′ output′ n
-      → image input n ≡ image input′ n → input ≡ input′
+      → image c input n ≡ image c input′ n → input ≡ input′
   same-strip input input′ output output′ n h h′ w w′ e =
-      let p : outputAfter (reverse c d) (image input n) [] (Done n) ≡ input ++ drop (length input) [] = back-written input output n h w [] in
-      let q : outputAfter (reverse c d) (image input′ n) [] (Done n) ≡ input′ ++ drop (length input′) [] = back-written input′ output′ n h′ w′ [] in
+      let p : outputAfter (reverse c d) (image c input n) [] (Done n) ≡ input ++ drop (length input) [] = itself-written input output [] n h w in
+      let q : outputAfter (reverse c d) (image c input′ n) [] (Done n) ≡ input′ ++ drop (length input′) [] = itself-written input′ output′ [] n h′ w′ in
       sym (rw (drop-nil, append-nil) at p) ∙ ap (λ (l : List ℕ). outputAfter (reverse c d) l [] (Done n)) e ∙ rw (drop-nil, append-nil) at q
 
   -- TWO STRIPS ARE ONE exactly where what is written of them is one
@@ -165,5 +187,5 @@ module _ (c : Conversion) (long : (r : List ℕ) → length (c .bytes r) ≡ c .
   same-written input input′ output output′ n h h′ e e′ =
       let w = done-whole c input output n e in
       let w′ = done-whole c input′ output′ n e′ in
-      rw (image-is input output n h w, image-is input′ output′ n h′ w′)
-      (λ p. ap (λ (s : List ℕ). image s n) p, λ q. same-strip input input′ output output′ n h h′ w w′ q)
+      rw (image-is c long input output n, image-is c long input′ output′ n)
+      (λ p. ap (λ (s : List ℕ). image c s n) p, λ q. same-strip input input′ output output′ n h h′ w w′ q)

@@ -1,19 +1,19 @@
 -- DEMAND 3 of the scene strips: pixel to scene to pixel returns the same bytes, for every strip that is accepted; two pixel strips are one
 -- exactly where their scene strips are.
 -- Assumes nothing.
-use mathlib.Core.Path.{_≡_}
+use mathlib.Core.Path.{_≡_, _∙_}
 use mathlib.Core.Logic.{_↔_}
 use mathlib.Core.List.{List, _++_}
-use Prim.Native.Nat.{ℕ, _+_, _*_, _≤_}
+use Prim.Native.Nat.{ℕ, _+_, _*_, _^_, _≤_, _<_}
 use lib.Dec.{lit<}
 use lib.ListN.{length, take, drop}
 use Rattle.rules.specs.declared.Answer.the-variants.{Done}
 use Rattle.rules.specs.declared.Check.the-variants.{Passed}
 use Rattle.rules.specs.declared.Setting.{Setting}
-use Rattle.rules.specs.Setting.{codeCheck, Valid}
+use Rattle.rules.specs.Setting.{settingCheck, codeCheck, Valid}
 use Rattle.rules.specs.Record.{IsBytes, codeBytes, numberBytes, settingOf, numbersSize}
 use Rattle.rules.specs.Strip.{recordCheck, answerOf, outputAfter}
-use Rattle.rules.proofs.Records.{length-record}
+use Rattle.rules.proofs.Records.{length-record, write-read}
 use Rattle.decode.proofs.Limit.{decoded-passes}
 use Rattle.encode.proofs.Theorems.{encode-decoded}
 use Rattle.record_conversion.specs.Conversions.{sceneBits, codeBits, pixelToScene, sceneToPixel}
@@ -24,8 +24,8 @@ use Rattle.strip.proofs.Back as back
 use Rattle.rules.specs.Conversions.{numberCheck}
 
 -- a code's number, in its bytes, is read back, passes, and is encoded to the code
-code-back : (s : Setting) → Valid s → (n : ℕ) → codeCheck s n ≡ Passed → TakenBack codeBytes numberBytes codeCheck numberCheck sceneBits codeBits s n
-code-back s v n e =
+code-back : (s : Setting) → Valid s → (n : ℕ) → n < 256 ^ codeBytes → codeCheck s n ≡ Passed → TakenBack settingCheck codeBytes numberBytes codeCheck numberCheck sceneBits codeBits (λ s u. u) s n
+code-back s v n l e =
     record {
       fits = scene-fits s v n e;
       passes = rw (scene-read s v n e) (decoded-passes s v n e);
@@ -37,8 +37,8 @@ long r = length-record numberBytes (settingOf r) _
 
 taken-back : (r : List ℕ) → Good pixelToScene r → (recordCheck sceneToPixel (pixelToScene .bytes r) ≡ Passed) × (sceneToPixel .bytes (pixelToScene .bytes r) ≡ r)
 taken-back r g = (
-  record-passes codeBytes numberBytes codeCheck numberCheck sceneBits codeBits code-back r g,
-  record-back codeBytes numberBytes codeCheck numberCheck sceneBits codeBits code-back r g,
+  record-passes settingCheck codeBytes numberBytes codeCheck numberCheck sceneBits codeBits (λ s u. u) code-back r g,
+  record-back settingCheck codeBytes numberBytes codeCheck numberCheck sceneBits codeBits (λ s u. u) code-back r g ∙ write-read codeBytes r (g .bytes) (g .long),
 )
 
 -- PIXEL TO SCENE TO PIXEL: a strip that is converted whole is returned, byte by byte, where there is room for it

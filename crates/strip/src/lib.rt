@@ -1,6 +1,7 @@
 // Conversions of strips. A first pass checks every record, a second writes each: a refusal leaves the output as it was. The way back of a short
 // strip takes one pass, into a buffer.
 ghost use mathlib.Core.Path.{_≡_};
+ghost use Rattle.rules.specs.Conversions.{acesToHalf, halfToAces};
 ghost use Rattle.rules.specs.Strip.{Converts};
 ghost use Rattle.record_conversion.specs.Conversions.{pixelToScene, sceneToPixel, pixelToAces, acesToPixel, conversionOf};
 ghost use Rattle.strip.specs.Lent.{LentBytes};
@@ -80,4 +81,20 @@ pub fn aces_to_pixel(input: &[u8], output: &mut [u8]) -> Answer
         return strip_one_pass::aces_to_pixel(input, n, output);
     }
     convert(Kind::AcesToPixel, input, output)
+}
+
+// A strip of ACES records to one of half records. Pixels that differ may have one half record: a half strip is no master.
+pub fn aces_to_half(input: &[u8], output: &mut [u8]) -> Answer
+    ensures { λ a. ⌜ Converts acesToHalf (now (input .entry)) (now (output .entry)) a (now (output .exit)) ⌝ }
+    ensures { λ _. ⌜ LentBytes (now (input .entry)) (now (output .entry)) (now (output .exit)) ⌝ }
+{
+    convert(Kind::AcesToHalf, input, output)
+}
+
+// A strip of half records to one of ACES records.
+pub fn half_to_aces(input: &[u8], output: &mut [u8]) -> Answer
+    ensures { λ a. ⌜ Converts halfToAces (now (input .entry)) (now (output .entry)) a (now (output .exit)) ⌝ }
+    ensures { λ _. ⌜ LentBytes (now (input .entry)) (now (output .entry)) (now (output .exit)) ⌝ }
+{
+    convert(Kind::HalfToAces, input, output)
 }

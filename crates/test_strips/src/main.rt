@@ -1,6 +1,6 @@
 // Converts strips. Standard input holds jobs: a byte for the conversion (0 pixel to scene, 1 scene to pixel, 2 pixel to ACES, 3 ACES to
-// pixel), the lengths of the input and of the output strip, two bytes each, then the bytes of both. For each job a line says `done` and
-// the count of records, or `refused`, the refusal's number and the record's index; the output strip's bytes follow.
+// pixel, 4 ACES to half, 5 half to ACES), the lengths of the input and of the output strip, two bytes each, then the bytes of both. For each
+// job a line says `done` and the count of records, or `refused`, the refusal's number and the record's index; the output strip's bytes follow.
 use libc::STDIN_FILENO;
 use libc::STDOUT_FILENO;
 use rules::Answer;
@@ -26,7 +26,9 @@ fn convert(conversion: u8, input: &[u8], output: &mut [u8]) -> Answer {
         0 => strip::pixel_to_scene(input, output),
         1 => strip::scene_to_pixel(input, output),
         2 => strip::pixel_to_aces(input, output),
-        _ => strip::aces_to_pixel(input, output),
+        3 => strip::aces_to_pixel(input, output),
+        4 => strip::aces_to_half(input, output),
+        _ => strip::half_to_aces(input, output),
     }
 }
 

@@ -8,7 +8,7 @@ use Rattle.rules.specs.declared.Setting.{Setting}
 use Rattle.rules.specs.Record.{settingOf, pixelIn}
 use Rattle.record_conversion.specs.Conversions.{pixelToAces}
 use Rattle.record_conversion.specs.declared.Kind.the-variants.{PixelToAces}
-use Rattle.record_conversion.proofs.Channels.{codes-pixel}
+use Rattle.rules.proofs.Channels.{codes-pixel}
 use Rattle.record_conversion.proofs.EveryKind.{kind-valid}
 use Rattle.lister_text.proofs.Judged.{code-refused, all-passed}
 use Rattle.lister_text.proofs.judge_valid.Statement.{statement}
