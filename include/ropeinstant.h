@@ -8,7 +8,10 @@
  * setting: curve (1 byte), width (1 byte), EI (2 bytes). A width is a count of bits, at full range; 140 is the legal range of 12 bits, the
  * codes 256 to 3760; and width 16 of curve 4 is the 12-bit code times 16, as recorders write it, the multiples of 16 from 0 to 65520. A pixel
  * record has 10 bytes, with three codes of 2 bytes; a scene record and an ACES record have 28, with three signed numbers of 8 bytes in units
- * of 2^-24.
+ * of 2^-24; a half record has 10, with three IEEE 754 binary16 numbers of 2 bytes.
+ *
+ * The master, from which every code of the camera comes back, is the ACES record of 28 bytes. A half record is no master: different pixels may
+ * share one.
  *
  * Curve 3 is LogC3 and curve 4 LogC4. Curve 2 is LogC of SUP 2.x firmware, with widths 10 and 12. Its scene numbers are units of normalised
  * sensor value. It has no ACES numbers, since ARRI publishes no ACES matrix for it: in a conversion to or from ACES one record of curve 2
@@ -68,7 +71,7 @@ static inline const char *ropeinstant_words(uint32_t number)
     case ROPEINSTANT_UNKNOWN_EI: return "the EI is not one of the curve's";
     case ROPEINSTANT_CODE_ABOVE_TOP: return "a code is above the top code of its width";
     case ROPEINSTANT_SCENE_OUT_OF_RANGE: return "a scene number to encode is outside -2^40 to 2^40";
-    case ROPEINSTANT_FLOAT_NOT_FINITE: return "a float is infinite or not a number";
+    case ROPEINSTANT_FLOAT_NOT_FINITE: return "a float or a half float is infinite or not a number";
     case ROPEINSTANT_FLOAT_OUT_OF_RANGE: return "a float is below -65536 or above 65536";
     case ROPEINSTANT_NO_PIXEL: return "no pixel of the setting has this ACES triple";
     case ROPEINSTANT_CODE_BELOW_FIRST: return "a code is below the first code of its width";
@@ -93,6 +96,14 @@ uint32_t ropeinstant_pixel_to_aces(const uint8_t *in, size_t in_len, uint8_t *ou
  * A strip of 16 to 4096 records is converted in one pass, with a buffer of 40 KiB on the stack, and any other in two, which take almost
  * twice the time: a longer strip may be cut at a record's border and converted in parts. */
 uint32_t ropeinstant_aces_to_pixel(const uint8_t *in, size_t in_len, uint8_t *out, size_t out_len, uint64_t *at);
+
+/* ACES records (28 bytes) to half records (10 bytes), each number to the nearest finite half, of two the one with the even fraction; a number
+ * beyond 65504 or -65504 gives that end. Different pixels may share a half record: what this writes is no master. Refuses by 1 to 5 and 12. */
+uint32_t ropeinstant_aces_to_half(const uint8_t *in, size_t in_len, uint8_t *out, size_t out_len, uint64_t *at);
+
+/* Half records (10 bytes) to ACES records (28 bytes), exactly; both zeros give 0. Written again they are the same bits, save that minus zero
+ * becomes plus zero. Refuses by 1 to 5, 12 and 8. */
+uint32_t ropeinstant_half_to_aces(const uint8_t *in, size_t in_len, uint8_t *out, size_t out_len, uint64_t *at);
 
 /* Float pixels, one at a time. Both return 0, or the number of the refusal, and then nothing that was lent has changed. This is proved, for
  * any numbers.

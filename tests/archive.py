@@ -1,11 +1,12 @@
 #!/usr/bin/env python3
 """archive.py PROGRAM [TEST..]: what an archive does with its masters by the command: check, inspect and verify them, several at once too, and hold them to their manifests;
-and with reels of older firmware, which have no master."""
+with half floats, which are no master; and with reels of older firmware, which have none."""
 import hashlib, json, random
 
+from binary16 import units_of
 from calls import DONE, FILES, GOOD, NO_MATRIX, OLD, REFUSED, USAGE, begin, begun, call, each, holds, keeps, litter, until
 from reel import reel, run
-from rules import NUMBERS, PIXEL, WITHOUT_MATRIX
+from rules import HALVES, NUMBERS, PIXEL, WITHOUT_MATRIX
 
 ACES = NUMBERS.pack(3, 12, 800, -238167, -283566, -289928)  # of GOOD
 OTHER = PIXEL.pack(3, 12, 800, 101, 0, 0)
@@ -192,11 +193,40 @@ def inspected(folder):
     assert status == REFUSED and "refused 6: record 3 (byte 30): green code 1024 is above 1023" in said and "no setting that there is         1 records" in said, said
     status, said, wrong = call("inspect", plain)
     assert status == REFUSED and "refused as each kind" in said, said
+    plain.write_bytes(GOOD * 3 + BAD)
+    status, said, wrong = call("inspect", plain)
+    assert status == REFUSED and said.startswith(f"{plain}: refused as each kind\n") and "green code 1024 is above 1023" in said, said
+    plain.write_bytes(GOOD * 3)
+    status, said, wrong = call("inspect", plain)
+    assert status == DONE and said.startswith(f"{plain}: pixel records, as its length and settings allow (half records look alike: --kind half)\n"), said
     holds(call("inspect", "-", data=GOOD), USAGE, "--kind")
     status, said, wrong = call("inspect", "-", "--kind=pixel", data=GOOD)
     assert status == DONE and said.endswith("\n    nothing is refused\n") and "matrix" not in said, said
     assert call("to-aces", pixels, folder / "master", "--manifest")[0] == DONE and seen(folder / "master")[0] == "manifest"
     assert call("inspect", pixels, aces)[1].endswith("2 files: 2 held, 0 refused, 0 could not be read\n")
+
+
+def halves(folder):
+    """a master goes to half floats and back; the same halves come again, and no pixels: a half file is no master"""
+    pixels, aces = made(folder)
+    half, read, again, back = (folder / name for name in ("shot.half", "read.aces", "again.half", "back.pixels"))
+    assert call("to-half", aces, half, "--manifest") == (DONE, "", "") and half.stat().st_size == pixels.stat().st_size
+    assert call("from-half", half, read) == (DONE, "", "") and call("to-half", read, again) == (DONE, "", "")
+    assert again.read_bytes() == half.read_bytes() and read.read_bytes() != aces.read_bytes()
+    keeps(back, "to-camera", read, back, status=REFUSED, saying=f"{read}: refused 10: record ")
+    keeps(aces, "to-half", read, aces, status=USAGE, saying=f"{aces} is named as ACES records, and half records would be written there")
+    keeps(back, "to-camera", again, back, status=USAGE, saying="is named as half records, and ACES records are read here")
+    keeps(back, "to-camera", half, back, status=REFUSED, saying="says that it holds half records, and ACES records are read")
+    holds(call("check", read), REFUSED, f"{read}: refused 10: ")
+    view = lines(call("inspect", half, "--json"))[0]["as"][0]
+    units = [units_of(red) for _, _, _, red, _, _ in HALVES.iter_unpack(half.read_bytes())]
+    assert (view["kind"], view["records"], view["refusal"], view["ranges"]["red"]) == ("half", 40000, None, [min(units), max(units)]), view
+    again.write_bytes(half.read_bytes()[:20] + HALVES.pack(3, 12, 800, 0x3C00, 0xFC00, 0x7E00))
+    out = folder / "out"
+    keeps(out, "from-half", again, out, status=REFUSED, saying=f"{again}: refused 8: record 2 (byte 20): green half 0xfc00 is minus infinity\n")
+    status, said, _ = call("inspect", again)
+    assert status == REFUSED and said.startswith(f"{again}: half records, as its name says\n    30 bytes, 3 records\n") and "red halves, in units" in said, said
+    assert said.endswith("refused 8: record 2 (byte 20): green half 0xfc00 is minus infinity\n"), said
 
 
 def older_firmware(folder):
@@ -240,4 +270,4 @@ def older_firmware(folder):
 
 
 if __name__ == "__main__":
-    each((checked, held_to_master, manifests, unreplaced, inspected, older_firmware))
+    each((checked, held_to_master, manifests, unreplaced, inspected, halves, older_firmware))

@@ -2,14 +2,18 @@
 import os, resource, signal, subprocess, sys, tempfile, time
 from pathlib import Path
 
-from rules import ACES_TO_PIXEL, NUMBERS, PIXEL, PIXEL_TO_ACES, PIXEL_TO_SCENE, SCENE_TO_PIXEL
+from rules import ACES_TO_HALF, ACES_TO_PIXEL, HALF_TO_ACES, HALVES, NUMBERS, PIXEL, PIXEL_TO_ACES, PIXEL_TO_SCENE, SCENE_TO_PIXEL
 
 DONE, REFUSED, USAGE, FILES = range(4)  # exit statuses
-NAMES = {PIXEL_TO_ACES: "to-aces", ACES_TO_PIXEL: "to-camera", PIXEL_TO_SCENE: "to-scene", SCENE_TO_PIXEL: "from-scene"}
+NAMES = {
+    PIXEL_TO_ACES: "to-aces", ACES_TO_PIXEL: "to-camera", PIXEL_TO_SCENE: "to-scene", SCENE_TO_PIXEL: "from-scene", ACES_TO_HALF: "to-half",
+    HALF_TO_ACES: "from-half",
+}
 LOOKING = "verify", "check", "inspect"  # those that write no file
 NO_MATRIX = {  # how the words of refusal 12 go on, by the records that are read
     PIXEL: ": to-scene converts its pixel records, and from-scene converts them back",
     NUMBERS: ", and so no ACES records: from-scene converts its scene records",
+    HALVES: ", and so no half records: from-scene converts its scene records",
 }
 OLD = b"the old output"
 GOOD = PIXEL.pack(3, 12, 800, 100, 0, 0)

@@ -6,16 +6,18 @@ import errno, hashlib, os, pty, random, re, shutil, signal, subprocess, sys, tem
 from pathlib import Path
 
 from calls import DONE, FILES, GOOD, LOOKING, NAMES, NOBODY, NO_MATRIX, OLD, PROGRAM, REFUSED, USAGE, begun, call, holds, keeps, limited, litter, until
+from binary16 import fields, finite
 from decoded import SETTINGS, WIDTHS, codes_of
 from peak import watched
 from reel import reel
-from rules import ACES_TO_PIXEL, LIMIT, NUMBERS, PIXEL, PIXEL_TO_ACES, PIXEL_TO_SCENE, READ, SCENE_TO_PIXEL, WRITTEN, convert, numbers
+from rules import ACES_TO_HALF, ACES_TO_PIXEL, HALF_TO_ACES, HALVES, LIMIT, NUMBERS, PIXEL, PIXEL_TO_ACES, PIXEL_TO_SCENE, READ, SCENE_TO_PIXEL, WRITTEN, convert, numbers
 from strips import jobs
 
 CHOSEN = [s for s in SETTINGS if s[:2] != (3, 16) or s[2] == 800]  # one of the eleven with 65536 codes
 CHANNELS = "red", "green", "blue"
 REFUSALS = {  # of each conversion, in the order in which they are tried
     PIXEL_TO_ACES: "1 3 4 5 12 13 11 6", ACES_TO_PIXEL: "1 3 4 5 12 10", PIXEL_TO_SCENE: "1 3 4 5 13 11 6", SCENE_TO_PIXEL: "1 3 4 5 7",
+    ACES_TO_HALF: "1 3 4 5 12", HALF_TO_ACES: "1 3 4 5 12 8",
 }
 
 
@@ -37,6 +39,7 @@ def help_and_version():
         said = call(NAMES[conversion], "--help")[1]
         assert re.findall(r"(?m)^    (\d+) ", said) == numbered.split(), (numbered, said)
         assert ("refuses the whole file:\nkeep its reels apart." in said) == (conversion == PIXEL_TO_ACES), said
+        assert ("A HALF FILE IS NO MASTER." in said) == (conversion == ACES_TO_HALF), said
         assert ("within 9/8 of a unit of what the exact curve and matrix give" in said) == (conversion == PIXEL_TO_ACES), said
         assert ("within 51/100 of a unit" in said) == (conversion == PIXEL_TO_SCENE), said
     status, said, wrong = call("--version")
@@ -101,6 +104,10 @@ def words_of(number, k, conversion, data):
     if number == 7:
         name, scene = next((name, scene) for name, scene in zip(CHANNELS, channels) if abs(scene) > LIMIT)
         return where + f"{name} scene number {scene} is outside -1099511627776 to 1099511627776\n"
+    if number == 8:
+        name, half = next((name, half) for name, half in zip(CHANNELS, channels) if not finite(half))
+        sign, _, fraction = fields(half)
+        return where + f"{name} half {half:#06x} is {'not a number' if fraction else 'minus infinity' if sign else 'plus infinity'}\n"
     *widths, last = WIDTHS.get(curve, (0,))
     return where + {
         3: f"curve {curve} is not 2, 3 or 4\n",
@@ -132,7 +139,7 @@ def held_to_rules(folder, pick, table, count):
             keeps(out, *run, status=REFUSED, saying=saying, data=data if piped else None)
         cause = "done" if how == "done" else f"refused {number}"
         seen[cause] = seen.get(cause, 0) + 1
-    assert all(cause in seen for cause in ("done", *(f"refused {n}" for n in (1, 3, 4, 5, 6, 7, 10, 11, 12, 13)))), seen
+    assert all(cause in seen for cause in ("done", *(f"refused {n}" for n in (1, 3, 4, 5, 6, 7, 8, 10, 11, 12, 13)))), seen
     return dict(sorted(seen.items()))
 
 
@@ -151,6 +158,11 @@ def listed():
     tried = [(c, GOOD * 7 + bad + GOOD, b"") for c in (PIXEL_TO_ACES, PIXEL_TO_SCENE) for bad in of_pixels]
     tried += [(SCENE_TO_PIXEL, scene * 3 + NUMBERS.pack(3, 12, 800, 0, x, 0), b"") for x in (LIMIT, LIMIT + 1, -LIMIT - 1, 2 ** 63 - 1)]
     tried += [(ACES_TO_PIXEL, aces * 3 + NUMBERS.pack(3, 12, 800, -290085, -290085, -290084), b"")]
+    half = HALVES.pack(3, 12, 800, 0x3C00, 0x8000, 0x7BFF)
+    tried += [(HALF_TO_ACES, half * 5 + HALVES.pack(*s, *halves), b"") for s, halves in (
+        ((3, 12, 800), (0x7BFF, 0x7C00, 0xFFFF)), ((3, 12, 800), (0, 0, 0xFC00)), ((4, 12, 0), (0x7C01, 0, 0)), ((2, 12, 800), (0x7C00, 0, 0)), ((4, 10, 0), (0x7C00, 0, 0)),
+    )]
+    tried += [(ACES_TO_HALF, aces * 4 + NUMBERS.pack(*s, -2 ** 63, 2 ** 63 - 1, 0), b"") for s in ((3, 12, 800), (2, 12, 800), (3, 12, 2000))]
     tried += [(c, aces * 3 + NUMBERS.pack(2, 12, 800, 53187, x, 0), b"") for c in (SCENE_TO_PIXEL, ACES_TO_PIXEL) for x in (65554, LIMIT + 1)]
     tried += [(c, b"", b"") for c in NAMES] + [(c, bytes(29), b"") for c in NAMES]
     return tried + [(PIXEL_TO_ACES, of_pixels[0] + GOOD * 40 + b"tail", b"")]

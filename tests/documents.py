@@ -386,13 +386,13 @@ def figures(sources, texts):
     gives are those of the widths in bits; and README.md has the count of settings"""
     curves = [curve("log_c2"), curve("log_c3"), curve("log_c4")]
     record = (ROOT / "crates/rules/specs/Record.antt").read_text()
-    code, number = (4 + 3 * int(re.search(rf"(?m)^{name} = (\d+)", record)[1]) for name in ("codeBytes", "numberBytes"))
+    code, number, half = (4 + 3 * int(re.search(rf"(?m)^{name} = (\d+)", record)[1]) for name in ("codeBytes", "numberBytes", "halfBytes"))
     refused = re.findall(r"(?m)^numberOf \w+ = (\d+)", (ROOT / "crates/rules/specs/Refusal.antt").read_text())
     entries = (ROOT / "crates/aces/src/entries.rt").read_text()
     entries = [line.split(", ") for line in re.findall(r"\[(-?\d+, -?\d+, -?\d+)\]", entries)]
     wanted = {
         ("Curve", "Widths", "EI"): [[n, widths, eis] for n, widths, eis, _ in curves],
-        ("Kind", "Bytes"): [["pixel", str(code)], ["scene", str(number)], ["ACES", str(number)]],
+        ("Kind", "Bytes"): [["pixel", str(code)], ["scene", str(number)], ["ACES", str(number)], ["half", str(half)]],
         ("EI", *"a b c e f".split()): [[ei] + [row[k] for k in "a b c e f".split()] for ei, row in curves[0][3].items()],
         ("EI", *"cut b c d e f".split()): [
             [ei] + [row[k] for k in "cut b c d e f".split()] for ei, row in curves[1][3].items()],

@@ -30,6 +30,8 @@ static const struct conversion CONVERSIONS[] = {
     {"scene-to-pixel", ropeinstant_scene_to_pixel, 28, 10},
     {"pixel-to-aces", ropeinstant_pixel_to_aces, 10, 28},
     {"aces-to-pixel", ropeinstant_aces_to_pixel, 28, 10},
+    {"aces-to-half", ropeinstant_aces_to_half, 28, 10},
+    {"half-to-aces", ropeinstant_half_to_aces, 10, 28},
 };
 enum { COUNT = sizeof CONVERSIONS / sizeof CONVERSIONS[0] };
 

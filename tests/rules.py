@@ -5,14 +5,17 @@ from fractions import Fraction
 from math import floor
 from struct import Struct
 
+from binary16 import finite, half_of, units_of
 from decoded import SETTINGS, codes_of, exact, refusal, setting_refusal
 
 LIMIT = 2 ** 40  # of a scene number to encode
-PIXEL_TO_SCENE, SCENE_TO_PIXEL, PIXEL_TO_ACES, ACES_TO_PIXEL = range(4)
-PIXEL, NUMBERS = Struct("<BBH3H"), Struct("<BBH3q")  # a record: curve, width, EI, and three codes or numbers
-READ = (PIXEL, NUMBERS, PIXEL, NUMBERS)  # by each conversion
-WRITTEN = (NUMBERS, PIXEL, NUMBERS, PIXEL)
-TO_OR_FROM_ACES = PIXEL_TO_ACES, ACES_TO_PIXEL
+CONVERSIONS = range(6)
+PIXEL_TO_SCENE, SCENE_TO_PIXEL, PIXEL_TO_ACES, ACES_TO_PIXEL, ACES_TO_HALF, HALF_TO_ACES = CONVERSIONS
+# a record: curve, width, EI, and three codes, numbers, or halves by their bits
+PIXEL, NUMBERS, HALVES = Struct("<BBH3H"), Struct("<BBH3q"), Struct("<BBH3H")
+READ = (PIXEL, NUMBERS, PIXEL, NUMBERS, NUMBERS, HALVES)  # by each conversion
+WRITTEN = (NUMBERS, PIXEL, NUMBERS, PIXEL, HALVES, NUMBERS)
+TO_OR_FROM_ACES = PIXEL_TO_ACES, ACES_TO_PIXEL, ACES_TO_HALF, HALF_TO_ACES
 MATRICES = {  # curve: scale, rows; 02, item 3: none is published for curve 2
     4: (10 ** 18, (
         (750957362824734131, 144422786709757084, 104619850465508965),
@@ -106,6 +109,10 @@ def one(table, conversion, s, channels):
         if any(not -LIMIT <= x <= LIMIT for x in channels):
             return 7
         return [nearest(table, s, x) for x in channels]
+    if conversion == ACES_TO_HALF:
+        return [half_of(v) for v in channels]
+    if conversion == HALF_TO_ACES:
+        return 8 if any(not finite(h) for h in channels) else [units_of(h) for h in channels]
     return pixel_of(table, s, channels) or 10
 
 

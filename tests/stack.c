@@ -51,6 +51,13 @@ static void top_codes(void)
         ropeinstant_top_code(width);
 }
 
+/* pixels to half records, by way of ACES */
+static uint32_t halves_of(const uint8_t *pixels, size_t length, uint8_t *halves, size_t room, uint64_t *at)
+{
+    uint32_t number = ropeinstant_pixel_to_aces(pixels, length, out, MOST * 28, at);
+    return number != 0 ? number : ropeinstant_aces_to_half(out, length / 10 * 28, halves, room, at);
+}
+
 static void *run(void *of)
 {
     struct job *job = of;
@@ -94,6 +101,8 @@ int main(void)
         {"scene to pixel", ropeinstant_scene_to_pixel, 28, ALL, ropeinstant_pixel_to_scene},
         {"pixel to ACES", ropeinstant_pixel_to_aces, 10, WITH_MATRIX, NULL},
         {"ACES to pixel", ropeinstant_aces_to_pixel, 28, WITH_MATRIX, ropeinstant_pixel_to_aces},
+        {"ACES to half", ropeinstant_aces_to_half, 28, WITH_MATRIX, ropeinstant_pixel_to_aces},
+        {"half to ACES", ropeinstant_half_to_aces, 10, WITH_MATRIX, halves_of},
     };
     const struct {
         const char *name;

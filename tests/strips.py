@@ -3,8 +3,9 @@
 of each output strip to the rules of 01 (rules.py)."""
 import random, subprocess, sys, time
 
+from binary16 import END, units_of
 from decoded import codes_of
-from rules import ACES_TO_PIXEL, LIMIT, PIXEL, PIXEL_TO_ACES, PIXEL_TO_SCENE, READ, SCENE_TO_PIXEL, SETTINGS, WRITTEN, aces, convert, numbers, setting_check
+from rules import ACES_TO_HALF, ACES_TO_PIXEL, CONVERSIONS, HALF_TO_ACES, LIMIT, PIXEL, PIXEL_TO_ACES, PIXEL_TO_SCENE, READ, SCENE_TO_PIXEL, SETTINGS, WRITTEN, aces, convert, numbers, setting_check
 
 CHOSEN = [s for s in SETTINGS if s[1] != 16] + [(3, 16, 160), (3, 16, 800), (3, 16, 1600), (4, 16, 0)]
 INVALID = [
@@ -42,10 +43,23 @@ def triple(pick, ys, s):
     return made
 
 
+def half(pick):
+    """a finite half; one in a hundred an infinity or NaN"""
+    h = pick.choice((0, 0x8000)) + pick.randrange(0x7C00)
+    return h | 0x7C00 if pick.randrange(100) == 0 else h
+
+
+def beside_half(pick):
+    """a number at or beside a half, or between two, or beyond the ends"""
+    a = units_of(pick.randrange(0x7C00))
+    return pick.choice((-1, 1)) * pick.choice((a, a + 1, 3 * a // 2, END * 2 ** 24 + pick.randrange(-9, 2 ** 29), pick.getrandbits(pick.randrange(1, 64)), *map(abs, ENDS[1:])))
+
+
 def channels(pick, ys, s, conversion):
     if READ[conversion] is PIXEL:
         return codes(pick, s)
-    return triple(pick, ys, s) if conversion == ACES_TO_PIXEL else [scene(pick, ys, s) for _ in range(3)]
+    one = {SCENE_TO_PIXEL: lambda: scene(pick, ys, s), ACES_TO_HALF: lambda: beside_half(pick), HALF_TO_ACES: lambda: half(pick)}
+    return triple(pick, ys, s) if conversion == ACES_TO_PIXEL else [one[conversion]() for _ in range(3)]
 
 
 def strip(pick, table, conversion):
@@ -159,9 +173,9 @@ def main():
     begun = time.time()
     pick = random.Random(int(sys.argv[2]) if len(sys.argv) > 2 else 1)
     table = {s: numbers(s) for s in CHOSEN}
-    todo = [(0, bytes(11), bytes(100)), (0, b"", b""), (1, b"", b""), *end_jobs(table), *jobs(pick, table, range(4), 4000)]
+    todo = [(0, bytes(11), bytes(100)), (0, b"", b""), (1, b"", b""), *end_jobs(table), *jobs(pick, table, CONVERSIONS, 6000)]
     seen, done = hold([sys.argv[1]], table, todo)
-    assert all(f"refused {n}" in seen for n in (*range(1, 8), *range(10, 14))), seen
+    assert all(f"refused {n}" in seen for n in (*range(1, 9), *range(10, 14))), seen
     print(f"strips: {len(todo)} strips are converted or refused as the rules say, every byte of the outputs too: {seen}")
     for name, there, back in ("scene", PIXEL_TO_SCENE, SCENE_TO_PIXEL), ("ACES", PIXEL_TO_ACES, ACES_TO_PIXEL):
         strips, records = returned([sys.argv[1]], done, there, back)

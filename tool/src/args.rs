@@ -139,7 +139,7 @@ fn kind() -> Arg {
         .value_parser(values)
         .ignore_case(true)
         .hide_possible_values(true)
-        .help("What the input holds, whatever its name says:\npixel, scene or aces")
+        .help("What the input holds, whatever its name says:\npixel, scene, aces or half")
 }
 
 fn shell() -> Arg {

@@ -1,7 +1,7 @@
 //! The conversions: the one table of their names, the kinds that each reads and writes, its function of the library, what it
 //! promises and its refusals.
-use crate::kinds::{Kind, ACES, PIXEL, SCENE};
-use crate::library::{aces_to_pixel, pixel_to_aces, pixel_to_scene, scene_to_pixel, Answer};
+use crate::kinds::{Kind, ACES, HALF, PIXEL, SCENE};
+use crate::library::{aces_to_half, aces_to_pixel, half_to_aces, pixel_to_aces, pixel_to_scene, scene_to_pixel, Answer};
 
 pub struct Conversion {
     pub name: &'static str,
@@ -65,13 +65,44 @@ Each code is the one whose scene number is nearest, of two the lower.
     refusals: &[1, 3, 4, 5, 7],
 };
 
-pub const CONVERSIONS: [&Conversion; 4] = [&TO_ACES, &TO_CAMERA, &TO_SCENE, &FROM_SCENE];
+pub const TO_HALF: Conversion = Conversion {
+    name: "to-half",
+    about: "Converts ACES records to half floats; not a master",
+    promise: "\
+Each half is the nearest finite one to the ACES number, of two the one with the
+even fraction. A number beyond 65504 or -65504 gives that end.
+
+A HALF FILE IS NO MASTER. Different pixels may share a half record, so nothing
+brings the camera's codes back from it. Keep the ACES file.
+",
+    from: &ACES,
+    to: &HALF,
+    convert: aces_to_half,
+    refusals: &[1, 3, 4, 5, 12],
+};
+
+pub const FROM_HALF: Conversion = Conversion {
+    name: "from-half",
+    about: "Converts half floats to ACES records",
+    promise: "\
+Each ACES number is exactly the value of the half. to-half gives the same bits
+again, save that minus zero becomes plus zero. to-camera refuses a record that
+is not exactly what a pixel gives, and so most records that were half floats.
+",
+    from: &HALF,
+    to: &ACES,
+    convert: half_to_aces,
+    refusals: &[1, 3, 4, 5, 12, 8],
+};
+
+pub const CONVERSIONS: [&Conversion; 6] = [&TO_ACES, &TO_CAMERA, &TO_SCENE, &FROM_SCENE, &TO_HALF, &FROM_HALF];
 
 /// The conversion that judges records of a kind. Pixels need no matrix to be sound.
 pub fn judging(kind: &Kind) -> &'static Conversion {
     match kind.name {
         "pixel" => &TO_SCENE,
         "scene" => &FROM_SCENE,
+        "half" => &FROM_HALF,
         _ => &TO_CAMERA,
     }
 }

@@ -2,12 +2,14 @@
 use crate::conversion::Conversion;
 use crate::failure::{Cause, Failure};
 use crate::input::Input;
+use crate::kinds::Kind;
 use crate::library::Refusal;
 use crate::manifest::{beside, text, Of};
+use crate::names::shown;
 use crate::output::Output;
 use crate::partial::clear;
 use crate::pipeline::room;
-use crate::reading::Reading;
+use crate::reading::{kind_by_ending, Reading};
 use crate::refusals::Refused;
 use crate::report::Facts;
 use crate::session::Session;
@@ -18,8 +20,20 @@ use serde_json::json;
 use std::path::Path;
 use std::sync::Mutex;
 
+/// That no file is written under the ending of another kind: half floats that are named as a master would be taken for one.
+fn named_for(kind: &Kind, to: &Path) -> Result<(), Failure> {
+    match kind_by_ending(to) {
+        Some(ending) if ending != kind => {
+            let words = format!("{} is named as {} records, and {} records would be written there", shown(to), ending.name, kind.name);
+            Err(Failure::usage(words))
+        }
+        _ => Ok(()),
+    }
+}
+
 /// Converts a file into another.
 pub fn convert(session: &Session, conversion: &Conversion, from: &Path, to: &Path) -> Result<Facts, Failure> {
+    named_for(conversion.to, to)?;
     let mut reading = Reading::open(from, conversion.from, conversion.name, session)?;
     let target = Target::of(to, &reading.input)?;
     let listed = listed(session, &target, &reading.input)?;

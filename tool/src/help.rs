@@ -1,6 +1,6 @@
 //! The texts of the help that are not the options: what a file is, the tables, and what each subcommand promises. No line is longer than 80.
-use crate::conversion::Conversion;
-use crate::kinds::{ACES, KINDS};
+use crate::conversion::{Conversion, TO_ACES};
+use crate::kinds::{Form, KINDS};
 use crate::refusals::REFUSALS;
 use crate::settings::{Curve, Width, CURVES};
 
@@ -37,20 +37,25 @@ Three numbers follow, for red, green and blue:
 "
     .to_string();
     for kind in KINDS {
-        let sign = if kind.signed { "signed numbers" } else { "codes" };
+        let form = match kind.form {
+            Form::Unsigned => "codes",
+            Form::Signed => "signed numbers",
+            Form::Half => "half floats",
+        };
         text += &format!(
             "    {:5} {} bytes, each number {}; {:15} (a name ends in {})\n",
             kind.name,
             kind.size(),
             kind.bytes,
-            sign,
+            form,
             kind.ending
         );
     }
     text += "\
 Signed numbers are in units: one unit is 2^-24, the least positive half float.
 Records of several settings may share a file. An ACES file is this project's own
-master in whole numbers, and no OpenEXR file.
+master in whole numbers, and no OpenEXR file. A half file is no master: pixels
+that differ may share a half record.
 ";
     text
 }
@@ -120,7 +125,7 @@ pub fn of_conversion(conversion: &Conversion) -> String {
     for refusal in REFUSALS.iter().filter(|refusal| conversion.refusals.contains(&refusal.number)) {
         text += &format!("    {:<3} {}\n", refusal.number, refusal.when);
     }
-    if conversion.to == &ACES {
+    if conversion.name == TO_ACES.name {
         without_matrix().for_each(|curve| text += &kept_apart(curve));
     }
     format!("{}\n{}\n{}\n{}\n{}\n{}", text, INPUT, OUTPUT, REPLACED, MANIFEST, STATUS)
@@ -154,11 +159,13 @@ alone can tell a flipped bit that gives another pixel's numbers.
 
 const INSPECT_MORE: &str = "\
 The kind is the one of --kind, of the manifest or of the name's ending (.pixels,
-.scene, .aces), else each that the length and the settings of the records allow;
-scene and ACES records look alike. It shows the settings with their counts, the
-range of each channel, and the first refusal: status 1 if there is one. Pixels
-are judged as to-scene judges them. Where some of them have no ACES matrix it
-says how many, and that to-aces refuses the file.
+.scene, .aces, .half), else each that the length and the settings of the records
+allow. Scene and ACES records look alike, and both are shown; half records look
+like pixels, and are shown where one of the three says that it holds them. It
+shows the settings with their counts, the range of each channel, and the first
+refusal: status 1 if there is one. Pixels are judged as to-scene judges them.
+Where some of them have no ACES matrix it says how many, and that to-aces
+refuses the file.
 ";
 
 const INPUT: &str = "\

@@ -3,7 +3,7 @@ use crate::conversion::{judging, TO_ACES};
 use crate::convert::refused;
 use crate::failure::{Cause, Failure};
 use crate::input::Input;
-use crate::kinds::{Kind, ACES, CHANNELS, KINDS, PIXEL};
+use crate::kinds::{Kind, ACES, CHANNELS, PIXEL, SCENE};
 use crate::names::{is_standard_input, shown};
 use crate::pipeline::{room, run, Plan};
 use crate::progress::Progress;
@@ -17,6 +17,9 @@ use crate::sums::{read_at, Named};
 use serde_json::{json, Value};
 use std::path::Path;
 use std::sync::Mutex;
+
+/// The kinds that records alone can tell. Half records look like pixels, and are believed only where that is said.
+const TOLD_APART: [&Kind; 3] = [&PIXEL, &SCENE, &ACES];
 
 /// The records that are looked at to tell which kinds a file may hold.
 const LOOKED_AT: usize = 4096;
@@ -49,13 +52,13 @@ fn kinds_of(session: &Session, path: &Path) -> Result<(Vec<&'static Kind>, &'sta
         return Err(Failure::usage(format!("what {} holds must be said by --kind", shown(path))));
     }
     let mut allowed = Vec::new();
-    for kind in KINDS {
+    for kind in TOLD_APART {
         if allowed_by_records(&input, kind).map_err(|cause| cause.of(&input.name))? {
             allowed.push(kind);
         }
     }
     // None is allowed: the file is shown as each, with what is refused.
-    Ok((if allowed.is_empty() { KINDS.to_vec() } else { allowed }, "records"))
+    Ok((if allowed.is_empty() { TOLD_APART.to_vec() } else { allowed }, "records"))
 }
 
 /// Whether the second of two files that `verify` is given is a master, to which the first is held.
@@ -128,6 +131,9 @@ fn facts(views: &[View], by: &str) -> Facts {
     let names: Vec<&str> = views.iter().map(|view| view.kind.name).collect();
     let how = match by {
         "records" if views.iter().all(|view| view.refused.is_some()) => "refused as each kind".to_string(),
+        "records" if names.contains(&PIXEL.name) => {
+            format!("{} records, as its length and settings allow (half records look alike: --kind half)", names.join(" or "))
+        }
         "records" => format!("{} records, as its length and settings allow", names.join(" or ")),
         "option" => format!("{} records, as --kind says", names.join(" or ")),
         _ => format!("{} records, as its {} says", names.join(" or "), by),
@@ -166,7 +172,7 @@ impl View {
         }
         for (channel, range) in CHANNELS.iter().zip(self.summary.ranges) {
             if let Some((least, most)) = range {
-                words += &row(&format!("{} {}s", channel, self.kind.number), format!("{} to {}", least, most));
+                words += &row(&format!("{} {}", channel, self.kind.called), format!("{} to {}", least, most));
             }
         }
         words + &self.verdict()

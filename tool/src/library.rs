@@ -16,6 +16,8 @@ extern "C" {
     fn ropeinstant_scene_to_pixel(input: *const u8, input_len: usize, output: *mut u8, output_len: usize, at: *mut u64) -> u32;
     fn ropeinstant_pixel_to_aces(input: *const u8, input_len: usize, output: *mut u8, output_len: usize, at: *mut u64) -> u32;
     fn ropeinstant_aces_to_pixel(input: *const u8, input_len: usize, output: *mut u8, output_len: usize, at: *mut u64) -> u32;
+    fn ropeinstant_aces_to_half(input: *const u8, input_len: usize, output: *mut u8, output_len: usize, at: *mut u64) -> u32;
+    fn ropeinstant_half_to_aces(input: *const u8, input_len: usize, output: *mut u8, output_len: usize, at: *mut u64) -> u32;
     fn ropeinstant_top_code(width: u8) -> u16;
 }
 
@@ -33,6 +35,14 @@ pub fn pixel_to_aces(input: &[u8], output: &mut [u8]) -> Answer {
 
 pub fn aces_to_pixel(input: &[u8], output: &mut [u8]) -> Answer {
     call(ropeinstant_aces_to_pixel, input, output)
+}
+
+pub fn aces_to_half(input: &[u8], output: &mut [u8]) -> Answer {
+    call(ropeinstant_aces_to_half, input, output)
+}
+
+pub fn half_to_aces(input: &[u8], output: &mut [u8]) -> Answer {
+    call(ropeinstant_half_to_aces, input, output)
 }
 
 /// The top code of a width of 1 to 16 bits; 0 for any other number.
@@ -148,6 +158,45 @@ mod tests {
             (of(16, 800, [0; 3]), refused(4), refused(4)),
         ] {
             assert_eq!((pixel_to_scene(&pixel, &mut scene), pixel_to_aces(&pixel, &mut scene)), (by_scene, by_aces));
+        }
+    }
+
+    #[test]
+    fn halves() {
+        let record = |setting: [u8; 4], halves: [u16; 3]| [&setting[..], &halves.map(u16::to_le_bytes).concat()].concat();
+        let of = |numbers: [i64; 3]| [&PIXEL[..4], &numbers.map(i64::to_le_bytes).concat()].concat();
+        let (mut half, mut aces) = ([0; kinds::HALF.size()], [0; kinds::ACES.size()]);
+        for (numbers, halves) in [
+            ([2049, 2051, 4095], [0x800, 0x802, 0xc00]),
+            ([i64::MIN, i64::MAX, 0], [0xfbff, 0x7bff, 0]),
+            ([-1, 65504 << 24, -(1 << 24)], [0x8001, 0x7bff, 0xbc00]),
+        ] {
+            assert_eq!(aces_to_half(&of(numbers), &mut half), Ok(1));
+            assert_eq!(half, record([3, 12, 0x20, 3], halves)[..]);
+        }
+        assert_eq!(half_to_aces(&half, &mut aces), Ok(1));
+        assert_eq!(aces, of([-1, 65504 << 24, -(1 << 24)])[..]);
+        let refused = |number| Err(Refusal { number, record: 0 });
+        for (setting, halves, number) in [
+            ([3, 12, 0x20, 3], [0x7bff, 0x7c00, 0], 8),
+            ([3, 12, 0x20, 3], [0xffff, 0, 0], 8),
+            ([2, 12, 0x20, 3], [0x7c00, 0, 0], 12),
+            ([2, 16, 0x20, 3], [0x7c00, 0, 0], 4),
+            ([2, 12, 0, 0], [0x7c00, 0, 0], 5),
+        ] {
+            assert_eq!(half_to_aces(&record(setting, halves), &mut aces), refused(number));
+        }
+        aces[0] = 2;
+        assert_eq!(aces_to_half(&aces, &mut half), refused(12));
+    }
+
+    #[test]
+    fn the_units_of_every_half_are_the_librarys() {
+        for bits in 0..=u16::MAX {
+            let record = [&PIXEL[..4], &[bits; 3].map(u16::to_le_bytes).concat()].concat();
+            let mut aces = [0; kinds::ACES.size()];
+            let read = half_to_aces(&record, &mut aces).ok().map(|_| kinds::ACES.numbers(&aces)[2]);
+            assert_eq!(read, crate::half::units(bits), "{:#06x}", bits);
         }
     }
 

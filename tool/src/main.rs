@@ -6,6 +6,7 @@ mod conversion;
 mod convert;
 mod demo;
 mod failure;
+mod half;
 mod help;
 mod input;
 mod inspect;

@@ -1,6 +1,7 @@
 //! The refusals: the one table of their numbers and words, and the words for a refused record. The library decides; this only reads the
 //! refused record again.
 use crate::conversion::{FROM_SCENE, TO_SCENE};
+use crate::half::{not_finite, units};
 use crate::kinds::{Kind, CHANNELS};
 use crate::settings::{listed, Setting, CURVES};
 
@@ -14,7 +15,7 @@ pub struct Refusal {
 }
 
 /// In the order in which they are tried. 2, an output that is too short, is not here: the command makes room for every record.
-pub const REFUSALS: [Refusal; 10] = [
+pub const REFUSALS: [Refusal; 11] = [
     Refusal { number: 1, when: "the input is not a whole number of records", cause: |_, _, _| String::new() },
     Refusal { number: 3, when: "the curve is not 2, 3 or 4", cause: curve },
     Refusal { number: 4, when: "the width is not one of the curve's", cause: width },
@@ -24,6 +25,7 @@ pub const REFUSALS: [Refusal; 10] = [
     Refusal { number: 11, when: "a code is below the first code of its width", cause: code_below_first },
     Refusal { number: 6, when: "a code is above the top code of its width", cause: code_above_top },
     Refusal { number: 7, when: "a scene number to encode is outside -2^40 to 2^40", cause: scene_out_of_range },
+    Refusal { number: 8, when: "a half float is infinite or not a number", cause: half_not_finite },
     Refusal { number: 10, when: "no pixel of the setting has these ACES numbers", cause: no_pixel },
 ];
 
@@ -89,7 +91,7 @@ fn no_matrix(kind: &Kind, setting: &Setting, _: &[u8]) -> String {
     if kind == TO_SCENE.from {
         format!("curve {} has no ACES matrix: {} converts its pixel records, and {} converts them back", curve, there, back)
     } else {
-        format!("curve {} has no ACES matrix, and so no ACES records: {} converts its scene records", curve, back)
+        format!("curve {} has no ACES matrix, and so no {} records: {} converts its scene records", curve, kind.name, back)
     }
 }
 
@@ -124,6 +126,14 @@ fn scene_out_of_range(kind: &Kind, _: &Setting, record: &[u8]) -> String {
     }
 }
 
+fn half_not_finite(kind: &Kind, _: &Setting, record: &[u8]) -> String {
+    let bits = kind.numbers(record).map(|bits| bits as u16);
+    match CHANNELS.iter().zip(bits).find(|(_, bits)| units(*bits).is_none()) {
+        Some((channel, bits)) => format!("{} half {:#06x} is {}", channel, bits, not_finite(bits)),
+        None => "a half is infinite or not a number".to_string(),
+    }
+}
+
 fn no_pixel(kind: &Kind, setting: &Setting, record: &[u8]) -> String {
     let triple: Vec<String> = kind.numbers(record).iter().map(i64::to_string).collect();
     format!("no pixel of {} has the ACES numbers {}", setting, triple.join(", "))
@@ -133,12 +143,16 @@ fn no_pixel(kind: &Kind, setting: &Setting, record: &[u8]) -> String {
 mod tests {
     use super::*;
     use crate::conversion::CONVERSIONS;
-    use crate::kinds::{ACES, PIXEL};
+    use crate::kinds::{ACES, HALF, PIXEL};
 
     fn words(number: u32, index: u64, setting: (u8, u8, u16), codes: [u16; 3]) -> String {
+        words_of(&PIXEL, number, index, setting, codes)
+    }
+
+    fn words_of(kind: &Kind, number: u32, index: u64, setting: (u8, u8, u16), codes: [u16; 3]) -> String {
         let mut record = Setting { curve: setting.0, width: setting.1, ei: setting.2 }.bytes().to_vec();
         codes.iter().for_each(|code| record.extend(code.to_le_bytes()));
-        Refused::record(&PIXEL, number, index, &record).words
+        Refused::record(kind, number, index, &record).words
     }
 
     #[test]
@@ -158,6 +172,14 @@ mod tests {
     fn the_first_code_that_is_no_multiple() {
         assert_eq!(words(13, 2, (4, 16, 0), [16, 17, 65535]), "record 2 (byte 20): green code 17 is not a multiple of 16");
         assert_eq!(words(13, 0, (4, 16, 0), [65535, 1, 0]), "record 0 (byte 0): red code 65535 is not a multiple of 16");
+    }
+
+    #[test]
+    fn the_first_half_that_is_not_finite() {
+        let words = |halves| words_of(&HALF, 8, 3, (4, 12, 0), halves);
+        assert_eq!(words([0x7bff, 0x7c00, 0xffff]), "record 3 (byte 30): green half 0x7c00 is plus infinity");
+        assert_eq!(words([0xfc00, 0, 0]), "record 3 (byte 30): red half 0xfc00 is minus infinity");
+        assert_eq!(words([0, 0, 0x7c01]), "record 3 (byte 30): blue half 0x7c01 is not a number");
     }
 
     #[test]
@@ -182,6 +204,8 @@ mod tests {
         assert_eq!(words(&PIXEL), format!("record 5 (byte 50): {}", pixel));
         let aces = "curve 2 has no ACES matrix, and so no ACES records: from-scene converts its scene records";
         assert_eq!(words(&ACES), format!("record 5 (byte 140): {}", aces));
+        let half = "curve 2 has no ACES matrix, and so no half records: from-scene converts its scene records";
+        assert_eq!(words(&HALF), format!("record 5 (byte 50): {}", half));
     }
 
     #[test]

@@ -9,7 +9,7 @@ pub struct Summary {
     pub settings: BTreeMap<Setting, u64>,
     /// Records of no setting that there is.
     pub others: u64,
-    /// The least and the greatest number of each channel.
+    /// The least and the greatest value of each channel.
     pub ranges: [Option<(i64, i64)>; CHANNELS.len()],
 }
 
@@ -36,8 +36,9 @@ impl Summary {
     /// Widens the ranges by a strip's records.
     pub fn range(&mut self, kind: &Kind, strip: &[u8]) {
         for record in strip.chunks_exact(kind.size()) {
-            for (range, number) in self.ranges.iter_mut().zip(kind.numbers(record)) {
-                *range = Some(range.map_or((number, number), |(least, most)| (least.min(number), most.max(number))));
+            for (range, value) in self.ranges.iter_mut().zip(kind.values(record)) {
+                let widened = value.map(|value| range.map_or((value, value), |(least, most)| (least.min(value), most.max(value))));
+                *range = widened.or(*range);
             }
         }
     }
