@@ -1,4 +1,4 @@
-//! Links the proved library, and OpenColorIO where its headers are installed (`cfg(ocio)`).
+//! Links the proved library, and OpenColorIO and Imath where their headers are installed (`cfg(ocio)`, `cfg(imath)`).
 use std::path::Path;
 use std::process::Command;
 
@@ -8,22 +8,27 @@ fn main() {
     println!("cargo:rustc-link-search=native={}", library.display());
     println!("cargo:rustc-link-lib=static=ropeinstant");
     println!("cargo:rerun-if-changed={}", library.join("libropeinstant.a").display());
-    println!("cargo:rerun-if-changed=ocio.cpp");
-    println!("cargo:rerun-if-changed=/usr/include/OpenColorIO/OpenColorIO.h");
-    println!("cargo:rustc-check-cfg=cfg(ocio)");
-    if Path::new("/usr/include/OpenColorIO/OpenColorIO.h").exists() {
-        link_ocio(Path::new(&std::env::var("OUT_DIR").unwrap()));
-    }
+    link("ocio", "/usr/include/OpenColorIO/OpenColorIO.h", "OpenColorIO");
+    link("imath", "/usr/include/Imath/half.h", "Imath-3_1");
 }
 
-fn link_ocio(folder: &Path) {
-    let object = folder.join("ocio.o");
-    run(Command::new("g++").args(["-O2", "-Wall", "-Wextra", "-c", "ocio.cpp", "-o"]).arg(&object));
-    run(Command::new("ar").arg("crs").arg(folder.join("libocio.a")).arg(&object));
-    println!("cargo:rustc-cfg=ocio");
+/// A file of C++ over another library, where the header of that is installed.
+fn link(name: &str, header: &str, library: &str) {
+    println!("cargo:rerun-if-changed={}.cpp", name);
+    println!("cargo:rerun-if-changed={}", header);
+    println!("cargo:rustc-check-cfg=cfg({})", name);
+    if !Path::new(header).exists() {
+        return;
+    }
+    let folder = std::env::var("OUT_DIR").unwrap();
+    let folder = Path::new(&folder);
+    let object = folder.join(format!("{}.o", name));
+    run(Command::new("g++").args(["-O2", "-Wall", "-Wextra", "-c"]).arg(format!("{}.cpp", name)).arg("-o").arg(&object));
+    run(Command::new("ar").arg("crs").arg(folder.join(format!("lib{}.a", name))).arg(&object));
+    println!("cargo:rustc-cfg={}", name);
     println!("cargo:rustc-link-search=native={}", folder.display());
-    println!("cargo:rustc-link-lib=static=ocio");
-    println!("cargo:rustc-link-lib=OpenColorIO");
+    println!("cargo:rustc-link-lib=static={}", name);
+    println!("cargo:rustc-link-lib={}", library);
     println!("cargo:rustc-link-lib=stdc++");
 }
 

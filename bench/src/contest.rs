@@ -1,7 +1,10 @@
 //! The contest of one setting: the contestants' times, the shares of pixels that come back a code off, and how far ACES numbers are off.
-use crate::library::{convert, ropeinstant_aces_to_pixel, ropeinstant_pixel_to_aces, Function};
+use crate::imath::Imath;
+use crate::library::{
+    convert, ropeinstant_aces_to_half, ropeinstant_aces_to_pixel, ropeinstant_half_to_aces, ropeinstant_pixel_to_aces, Function,
+};
 use crate::ocio::Ocio;
-use crate::plain::{self, Codes, ACES, PIXEL, UNIT};
+use crate::plain::{self, Codes, ACES, HALVES, PIXEL, UNIT};
 
 #[repr(C)]
 struct Timespec {
@@ -23,19 +26,25 @@ pub struct Setting {
     pub ei: u16,
 }
 
-/// Nanoseconds a pixel, of Ropeinstant line by line and in one strip, plain f64, OpenColorIO and a copy.
+/// Nanoseconds a pixel, of Ropeinstant line by line and in one strip, plain f64, another library and a copy.
 pub type Times = [Option<f64>; 5];
 
-/// A strip of random pixels of a setting, its ACES strip, and the least times seen.
+/// A strip of random pixels of a setting, its ACES strip and half strip, and the least times seen.
 pub struct Contest {
     pub setting: Setting,
     strip: Vec<u8>,
     aces: Vec<u8>,
+    halves: Vec<u8>,
     ocio: Option<Ocio>,
+    imath: Option<Imath>,
     signals: Vec<f32>,
     rgb: Vec<f32>,
+    values: Vec<f32>,
+    bits: Vec<u16>,
     pub to_aces: Times,
     pub to_camera: Times,
+    pub to_half: Times,
+    pub from_half: Times,
 }
 
 /// What the converted pixels of a strip are beside Ropeinstant's.
@@ -46,6 +55,8 @@ pub struct Comparison {
     pub differing: f64,
     /// Of ACES numbers by plain f64, and of OpenColorIO's in float32 and through half.
     pub distances: [Option<Distance>; 3],
+    /// The share of halves by Imath, of ACES numbers in float32, that are not Ropeinstant's.
+    pub halves_off: Option<f64>,
 }
 
 /// How far ACES numbers are from Ropeinstant's, in units.
@@ -61,7 +72,12 @@ impl Contest {
         let ocio = Ocio::new(&setting);
         let signals = signals(&setting, &strip);
         let rgb = signals.clone();
-        Contest { setting, strip, aces, ocio, signals, rgb, to_aces: [None; 5], to_camera: [None; 5] }
+        let halves = converted(ropeinstant_aces_to_half, &aces, HALVES * pixels);
+        let values = numbers(&aces).iter().map(|number| (number / UNIT) as f32).collect();
+        let bits = vec![0; 3 * pixels];
+        let (to_aces, to_camera, to_half, from_half) = ([None; 5], [None; 5], [None; 5], [None; 5]);
+        let imath = Imath::installed();
+        Contest { setting, strip, aces, halves, ocio, imath, signals, rgb, values, bits, to_aces, to_camera, to_half, from_half }
     }
 
     /// Times each contestant once, on the first pixels of the strip.
@@ -85,6 +101,26 @@ impl Contest {
             least(&mut to[3], pixels, || ocio.to_aces(rgb));
             least(&mut back[3], pixels, || ocio.to_camera(rgb));
         }
+        self.round_of_halves(pixels);
+    }
+
+    fn round_of_halves(&mut self, pixels: usize) {
+        let (aces, halves) = (&self.aces[..ACES * pixels], &self.halves[..HALVES * pixels]);
+        let (mut made, mut read) = (halves.to_vec(), aces.to_vec());
+        let (to, from) = (&mut self.to_half, &mut self.from_half);
+        least(&mut to[0], pixels, || convert_lines(ropeinstant_aces_to_half, aces, ACES, &mut made, HALVES));
+        least(&mut to[1], pixels, || convert(ropeinstant_aces_to_half, aces, &mut made));
+        least(&mut from[0], pixels, || convert_lines(ropeinstant_half_to_aces, &made, HALVES, &mut read, ACES));
+        least(&mut from[1], pixels, || convert(ropeinstant_half_to_aces, &made, &mut read));
+        assert!(made == halves);
+        least(&mut to[4], pixels, || read.copy_from_slice(aces));
+        least(&mut from[4], pixels, || read.copy_from_slice(aces));
+        if let Some(imath) = &self.imath {
+            let (values, bits) = (&mut self.values[..3 * pixels], &mut self.bits[..3 * pixels]);
+            least(&mut to[3], pixels, || imath.to_half(values, bits));
+            let mut again = values.to_vec();
+            least(&mut from[3], pixels, || imath.from_half(bits, &mut again));
+        }
     }
 
     pub fn compared(&self) -> Comparison {
@@ -107,7 +143,13 @@ impl Contest {
             off[3] = Some(codes_off(&self.setting, strip, ocio, values));
             off[4] = Some(codes_off(&self.setting, strip, ocio, halves));
         }
-        Comparison { off, differing: differing(aces, &made, ACES), distances }
+        let halves_off = self.imath.as_ref().map(|imath| {
+            let mut bits = vec![0; self.values.len()];
+            imath.to_half(&self.values, &mut bits);
+            let own = self.halves.chunks_exact(HALVES).flat_map(plain::codes_of);
+            own.zip(&bits).filter(|(own, other)| own != *other).count() as f64 / bits.len() as f64
+        });
+        Comparison { off, differing: differing(aces, &made, ACES), distances, halves_off }
     }
 }
 

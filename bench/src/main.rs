@@ -1,10 +1,12 @@
-//! bench [PIXELS [REPETITIONS]]: Ropeinstant beside a plain f64 program, OpenColorIO and a copy of the bytes, on one thread, in one run.
+//! bench [PIXELS [REPETITIONS]]: Ropeinstant beside a plain f64 program, OpenColorIO, Imath and a copy of the bytes, on one thread, in one run.
 mod contest;
+mod imath;
 mod library;
 mod ocio;
 mod plain;
 
 use contest::{Comparison, Contest, Distance, Setting, Times, LINE};
+use imath::Imath;
 use ocio::Ocio;
 
 const COUNTED: usize = 1 << 20; // pixels that are compared, once they are converted
@@ -29,27 +31,30 @@ fn main() {
         "{} random pixels a setting, the least of {} runs that alternate, in lines of {} pixels, and Ropeinstant in one strip too.",
         pixels, repetitions, LINE
     );
-    println!("OpenColorIO: {}.\n", Ocio::version());
-    print_times("pixel to ACES", &contests, |contest| &contest.to_aces);
-    print_times("ACES to pixel", &contests, |contest| &contest.to_camera);
+    println!("OpenColorIO: {}. Imath: {}.\n", Ocio::version(), Imath::version());
+    print_times("pixel to ACES", "OpenColorIO", &contests, |contest| &contest.to_aces);
+    print_times("ACES to pixel", "OpenColorIO", &contests, |contest| &contest.to_camera);
+    print_times("ACES to half", "Imath", &contests, |contest| &contest.to_half);
+    print_times("half to ACES", "Imath", &contests, |contest| &contest.from_half);
     let compared: Vec<Comparison> = contests.iter().map(Contest::compared).collect();
     print_shares(&contests, &compared);
     print_distances(&contests, &compared);
     println!(
         "Plain f64 reads and writes the same records with the same checks, but its way back gives the nearest codes and refuses nothing;"
     );
-    println!("OpenColorIO works in place on float32 signals; turning codes to signals and back is not in its time.");
+    println!("OpenColorIO works in place on float32 signals; turning codes to signals and back is not in its time. Imath takes float32 to halves");
+    println!("and back; reading and writing records is not in its time.");
 }
 
-fn print_times(name: &str, contests: &[Contest], of: impl Fn(&Contest) -> &Times) {
-    println!("| {:<25} | Ropeinstant |    one strip |    plain f64 |  OpenColorIO | copy of 28 bytes |", name);
+fn print_times(name: &str, other: &str, contests: &[Contest], of: impl Fn(&Contest) -> &Times) {
+    println!("| {:<25} | Ropeinstant |    one strip |    plain f64 | {:>12} | copy of 28 bytes |", name, other);
     println!("|---------------------------|------------:|-------------:|-------------:|-------------:|-----------------:|");
     for contest in contests {
         let times = of(contest);
         let own = times[0].unwrap();
         let beside = [1, 2, 3, 4].map(|k| times[k].map_or("-".to_string(), |time| format!("{:.1} ({:.2})", time, time / own)));
-        let [strip, plain, ocio, copy] = beside;
-        println!("| {:<25} | {:>11.1} | {:>12} | {:>12} | {:>12} | {:>16} |", title(&contest.setting), own, strip, plain, ocio, copy);
+        let [strip, plain, other, copy] = beside;
+        println!("| {:<25} | {:>11.1} | {:>12} | {:>12} | {:>12} | {:>16} |", title(&contest.setting), own, strip, plain, other, copy);
     }
     println!();
 }
@@ -63,7 +68,9 @@ fn print_shares(contests: &[Contest], compared: &[Comparison]) {
         println!("| {:<25} | {:>11} | {:>9} | {:>12} | {:>20} | {:>12} |", title(&contest.setting), off[0], off[1], off[2], off[3], off[4]);
     }
     let differing: Vec<String> = compared.iter().map(|with| percent(with.differing)).collect();
-    println!("\nPixels whose ACES numbers by plain f64 are not Ropeinstant's, in the same order: {}.\n", differing.join(", "));
+    println!("\nPixels whose ACES numbers by plain f64 are not Ropeinstant's, in the same order: {}.", differing.join(", "));
+    let halves: Vec<String> = compared.iter().map(|with| with.halves_off.map_or("-".to_string(), percent)).collect();
+    println!("Halves by Imath, of ACES numbers in float32, that are not the nearest: {}.\n", halves.join(", "));
 }
 
 fn print_distances(contests: &[Contest], compared: &[Comparison]) {

@@ -5,12 +5,14 @@ use std::convert::TryInto;
 
 pub const UNIT: f64 = 16777216.0; // units in 1
 
-// The bytes of a setting, of a code and of a number, and of a pixel record and an ACES record.
+// The bytes of a setting, of a code, of a number and of a half, and of a pixel record, an ACES record and a half record.
 const SETTING: usize = 4;
 const CODE: usize = 2;
 const NUMBER: usize = 8;
+const HALF: usize = 2;
 pub const PIXEL: usize = SETTING + 3 * CODE;
 pub const ACES: usize = SETTING + 3 * NUMBER;
+pub const HALVES: usize = SETTING + 3 * HALF;
 
 struct Curve {
     a: f64,
