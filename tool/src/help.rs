@@ -184,7 +184,7 @@ for at the start. A refusal, a full disk, an unreadable input or a signal leaves
 OUT as it was, and no new file. So does a kill, but for the new file, which the
 next run to the same OUT removes. OUT is a regular file, or a new name in a
 folder that is there; a link to a file is followed. OUT is not IN, '-' or a
-device.
+device, and its name has no ending of another kind of record.
 ";
 
 const REPLACED: &str = "\

@@ -64,7 +64,7 @@ pub fn read(h: Half) -> Aces
     }
 }
 
-// How many binary digits of n are behind its first eleven: its leading zeros say it.
+// How many binary digits of n are behind its first eleven: its leading zeros say it, since 64 - 11 is 53.
 fn behind_eleven(n: u64) -> u64
     requires { ⌜ n ≤ halfEnd ⌝ }
     ensures { λ k. ⌜ (k ≡ behindEleven n) × (k ≤ 29) ⌝ }

@@ -21,13 +21,13 @@ use Rattle.rules.specs.Refusal.{then}
 use Rattle.rules.specs.Setting.{acesCheck, ValidForAces}
 use Rattle.rules.specs.Strip.{recordCheck, records, recordAt, written, answerOf, outputAfter, stripAfter}
 use Rattle.rules.proofs.Results.{done-answer}
-use Rattle.rules.proofs.Records.{length-record, of-to, bits-fit}
+use Rattle.rules.proofs.Records.{of-to, bits-fit}
 use Rattle.half.proofs.Signs.{units-below}
 use Rattle.half.proofs.Theorems.{reading-exact, finite-passes, half-nearest, half-again}
-use Rattle.record_conversion.proofs.Channelwise.{TakenBack, record-passes, record-back}
-use Rattle.strip.proofs.Back as back
-use Rattle.promise.specs.Scenes.{ConvertedEach}
-use Rattle.promise.proofs.Scenes.{strip-each}
+use Rattle.record_conversion.proofs.Channelwise.{TakenBack}
+use Rattle.strip.proofs.ChannelsBack.{channels-back}
+use Rattle.promise.specs.Each.{ConvertedEach}
+use Rattle.promise.proofs.EachChannel.{strip-each}
 use Rattle.half_strips.specs.Words.{AcceptedAces, HoldsHalves, AcceptedHalves, IsWritten, WrittenRecord, IsRead, ReadRecord, readAndWritten, nearestUnits, writtenAndRead, halfStrip}
 
 -- ---- WRITING REFUSES NOTHING MORE than the setting: 3, 4, 5, 12
@@ -94,13 +94,7 @@ half-back s v h l e =
 pub half-aces-half : (halves aces others : List ℕ) (n : ℕ) → IsBytes halves → Done n ≡ answerOf halfToAces halves aces → length halves ≤ length others
     → (Done n ≡ answerOf acesToHalf (take (n * numbersSize) (outputAfter halfToAces halves aces (Done n))) others)
     × (outputAfter acesToHalf (take (n * numbersSize) (outputAfter halfToAces halves aces (Done n))) others (Done n) ≡ written readAndWritten (records halvesSize n halves) ++ drop (length halves) others)
-half-aces-half halves aces others n h e room =
-    back.round-trip-to halfToAces (λ r. length-record numberBytes (settingOf r) _) acesToHalf readAndWritten
-    (λ r g. (
-      record-passes acesCheck halfBytes numberBytes finiteCheck noCheck unitBits halfBits (λ s. withPlusZero) half-back r g,
-      record-back acesCheck halfBytes numberBytes finiteCheck noCheck unitBits halfBits (λ s. withPlusZero) half-back r g,
-    ))
-    (lit< tt) halves aces others n h e room
+half-aces-half = channels-back acesCheck halfBytes numberBytes finiteCheck noCheck unitBits halfBits (λ s. withPlusZero) half-back
 
 -- ---- WRITING AND READING AGAIN gives in each channel the units of the nearest half
 aces-back : (s : Setting) → ValidForAces s → (u : ℕ) → u < 256 ^ numberBytes → noCheck s u ≡ Passed
@@ -116,10 +110,4 @@ aces-back s v u l e =
 pub aces-half-aces : (aces halves others : List ℕ) (n : ℕ) → IsBytes aces → Done n ≡ answerOf acesToHalf aces halves → length aces ≤ length others
     → (Done n ≡ answerOf halfToAces (take (n * halvesSize) (outputAfter acesToHalf aces halves (Done n))) others)
     × (outputAfter halfToAces (take (n * halvesSize) (outputAfter acesToHalf aces halves (Done n))) others (Done n) ≡ written writtenAndRead (records numbersSize n aces) ++ drop (length aces) others)
-aces-half-aces aces halves others n h e room =
-    back.round-trip-to acesToHalf (λ r. length-record halfBytes (settingOf r) _) halfToAces writtenAndRead
-    (λ r g. (
-      record-passes acesCheck numberBytes halfBytes noCheck finiteCheck halfBits unitBits (λ s. nearestUnits) aces-back r g,
-      record-back acesCheck numberBytes halfBytes noCheck finiteCheck halfBits unitBits (λ s. nearestUnits) aces-back r g,
-    ))
-    (lit< tt) aces halves others n h e room
+aces-half-aces = channels-back acesCheck numberBytes halfBytes noCheck finiteCheck halfBits unitBits (λ s. nearestUnits) aces-back

@@ -13,7 +13,7 @@ use Rattle.rules.specs.Pixels.{pixel}
 use Rattle.rules.specs.Record.{IsBytes, numberBytes, halfBytes, toBits, ofBits, settingOf, channelAt, pixelRecord, numbersSize, halvesSize}
 use Rattle.rules.specs.Setting.{ValidForAces}
 use Rattle.rules.specs.Strip.{records, recordAt, written}
-use Rattle.promise.specs.Scenes.{EachChannel}
+use Rattle.promise.specs.Each.{EachChannel}
 use Rattle.promise.specs.Words.{Accepted, acesStrip}
 
 -- an ACES strip that is written as halves: a whole number of records, each with a setting that is valid for ACES. The numbers may be any

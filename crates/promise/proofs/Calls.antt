@@ -12,7 +12,8 @@ use Rattle.rules.specs.Result.{done, stripResult}
 use Rattle.rules.specs.Strip.{Conversion, recordAt, answerOf, outputAfter, Converts}
 use Rattle.record_conversion.specs.Conversions.{pixelToScene, sceneToPixel}
 use Rattle.strip.specs.Lent.{LentBytes}
-use Rattle.promise.specs.Scenes.{HoldsCodes, HoldsScene, DecodedRecord, EncodedRecord, ConvertedEach}
+use Rattle.promise.specs.Each.{ConvertedEach}
+use Rattle.promise.specs.Scenes.{HoldsCodes, HoldsScene, DecodedRecord, EncodedRecord}
 use Rattle.promise.proofs.Scenes.{pixels-decoded, scenes-encoded}
 
 -- what holds of the rules' answer and output holds of the call's

@@ -1,7 +1,7 @@
 -- Demand 2, of what scene strips hold. Pixel to scene writes decoded numbers, scene to pixel writes
 -- the nearest codes, each in the channel and with the setting of its own record.
 -- Assumes nothing.
-use mathlib.Core.List.{List, [], _∷_}
+use mathlib.Core.List.{List}
 use mathlib.Core.Path.{_≡_}
 use Prim.Native.Nat.{ℕ, _*_, _<_}
 use lib.ListN.{length}
@@ -9,12 +9,12 @@ use Rattle.rules.specs.declared.Check.the-variants.{Passed}
 use Rattle.rules.specs.declared.Setting.{Setting}
 use Rattle.rules.specs.Setting.{Valid}
 use Rattle.rules.specs.Calls.{EncodesBy}
-use Rattle.rules.specs.Result.{done}
 use Rattle.rules.specs.Decoding.{DecodesCode}
 use Rattle.rules.specs.Encoding.{sceneCheck}
 use Rattle.rules.specs.Record.{IsBytes, codeBytes, numberBytes, ofBits, settingOf, channelAt, numbersSize}
-use Rattle.rules.specs.Strip.{Conversion, recordAt, resultOf, stripAfter}
+use Rattle.rules.specs.Strip.{recordAt}
 use Rattle.decode.specs.Decoded.{decoded}
+use Rattle.promise.specs.Each.{EachChannel}
 use Rattle.promise.specs.Words.{HoldsPixelBy, AcceptedBy}
 
 -- a pixel record and a pixel strip that decoding accepts: there a setting of curve 2 is valid too
@@ -35,12 +35,6 @@ pub record AcceptedScenes (scenes : List ℕ) (n : ℕ) : Type 0 where
   pub long : length scenes ≡ n * numbersSize
   pub each : (k : ℕ) → k < n → HoldsScene (recordAt numbersSize k scenes)
 
--- what a record r with channels of a bytes became, with channels of b bytes: "A conversion copies
--- the setting", and each channel is R to the same channel of r
-pub record EachChannel (a b : ℕ) (R : Setting → (from to : ℕ) → Type 0) (r out : List ℕ) : Type 0 where
-  pub setting : settingOf out ≡ settingOf r
-  pub channel : (i : ℕ) → i < 3 → R (settingOf r) (channelAt a r i) (channelAt b out i)
-
 -- "Each decoded channel is less than .. from the exact ARRI curve" (how far: Decoding.tolerance); "A
 -- setting and code have one decoded number, the same in every operation and channel.": it is the
 -- number that encoding compares with
@@ -58,8 +52,3 @@ IsEncoded s bits code = EncodesBy decoded s (ofBits numberBytes bits) code
 
 abbrev pub EncodedRecord : (scene pixel : List ℕ) → Type 0
 EncodedRecord = EachChannel numberBytes codeBytes IsEncoded
-
--- n records are converted, and what is written for each is R to it
-pub record ConvertedEach (c : Conversion) (R : (r out : List ℕ) → Type 0) (input output : List ℕ) (n : ℕ) : Type 0 where
-  pub answers : resultOf c input output ≡ done (n ∷ [])
-  pub each : (k : ℕ) → k < n → R (recordAt (c .from) k input) (recordAt (c .to) k (stripAfter c input output))

@@ -89,7 +89,7 @@ halfEnd = 65504 * 2 ^ 24
 -- how many binary digits of n are behind its first eleven. "before any carry in rounding the exponent follows from the position of its
 -- highest one bit": the exponent is one more, where there is a digit before the fraction
 abbrev pub behindEleven : ℕ → ℕ
-behindEleven n = 53 - leadingZeros 64 n
+behindEleven n = 64 - 11 - leadingZeros 64 n
 
 -- n / 2^k to the nearest whole number, a tie to the even one: 2^k - 1 is added to twice n, with which a tie goes down; where the digits that
 -- are kept are odd one more is added, with which it goes up

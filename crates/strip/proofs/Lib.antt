@@ -2,4 +2,5 @@ pub mod First
 pub mod Contract
 pub mod Join
 pub mod Back
+pub mod ChannelsBack
 pub mod Theorems

@@ -11,16 +11,17 @@ use Rattle.rules.specs.declared.Answer.the-variants.{Done}
 use Rattle.rules.specs.declared.Check.the-variants.{Passed}
 use Rattle.rules.specs.declared.Setting.{Setting}
 use Rattle.rules.specs.Setting.{settingCheck, codeCheck, Valid}
-use Rattle.rules.specs.Record.{IsBytes, codeBytes, numberBytes, settingOf, numbersSize}
+use Rattle.rules.specs.Record.{IsBytes, codeBytes, numberBytes, numbersSize}
 use Rattle.rules.specs.Strip.{recordCheck, answerOf, outputAfter}
-use Rattle.rules.proofs.Records.{length-record, write-read}
+use Rattle.rules.proofs.Records.{write-read}
 use Rattle.decode.proofs.Limit.{decoded-passes}
 use Rattle.encode.proofs.Theorems.{encode-decoded}
 use Rattle.record_conversion.specs.Conversions.{sceneBits, codeBits, pixelToScene, sceneToPixel}
 use Rattle.record_conversion.proofs.Good.{Good}
-use Rattle.record_conversion.proofs.Channelwise.{TakenBack, record-passes, record-back}
+use Rattle.record_conversion.proofs.Channelwise.{TakenBack}
 use Rattle.record_conversion.proofs.SceneBits.{scene-fits, scene-read}
 use Rattle.strip.proofs.Back as back
+use Rattle.strip.proofs.ChannelsBack.{written-long, record-returned}
 use Rattle.rules.specs.Conversions.{numberCheck}
 
 -- a code's number, in its bytes, is read back, passes, and is encoded to the code
@@ -33,13 +34,12 @@ code-back s v n l e =
     }
 
 long : (r : List ℕ) → length (pixelToScene .bytes r) ≡ pixelToScene .to
-long r = length-record numberBytes (settingOf r) _
+long = written-long settingCheck codeBytes numberBytes codeCheck numberCheck sceneBits codeBits (λ s u. u) code-back
 
 taken-back : (r : List ℕ) → Good pixelToScene r → (recordCheck sceneToPixel (pixelToScene .bytes r) ≡ Passed) × (sceneToPixel .bytes (pixelToScene .bytes r) ≡ r)
-taken-back r g = (
-  record-passes settingCheck codeBytes numberBytes codeCheck numberCheck sceneBits codeBits (λ s u. u) code-back r g,
-  record-back settingCheck codeBytes numberBytes codeCheck numberCheck sceneBits codeBits (λ s u. u) code-back r g ∙ write-read codeBytes r (g .bytes) (g .long),
-)
+taken-back r g =
+    let t = record-returned settingCheck codeBytes numberBytes codeCheck numberCheck sceneBits codeBits (λ s u. u) code-back r g in
+    (t .0, t .1 ∙ write-read codeBytes r (g .bytes) (g .long))
 
 -- PIXEL TO SCENE TO PIXEL: a strip that is converted whole is returned, byte by byte, where there is room for it
 pub pixel-scene-pixel : (pixels scenes others : List ℕ) (n : ℕ) → IsBytes pixels → Done n ≡ answerOf pixelToScene pixels scenes → length pixels ≤ length others
