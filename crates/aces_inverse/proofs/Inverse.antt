@@ -1,5 +1,5 @@
 -- A matrix and its inverse: from three numbers at most e from the ACES numbers of three scene numbers the inverse leads to within 2 e + 1
--- units of these.
+-- units of these. And from the scene numbers that the inverse makes of three numbers the matrix leads to within one unit of these.
 -- Assumes nothing.
 use mathlib.Core.Bool.{Bool}
 use mathlib.Core.List.{List, [], _∷_}
@@ -17,15 +17,18 @@ use Rattle.rules.specs.declared.Setting.{Setting}
 use Rattle.rules.specs.declared.Triple.{Triple}
 use Rattle.rules.specs.declared.CurveName.{CurveName}
 use Rattle.rules.specs.declared.CurveName.the-variants.{LogC2, LogC3, LogC4, Unknown}
+use Rattle.rules.specs.declared.Check.the-variants.{Passed}
+use Rattle.rules.specs.Encoding.{sceneCheck}
 use Rattle.rules.specs.Setting.{named, ValidForAces}
+use Rattle.rules.proofs.Between.{scene-passes}
 use Rattle.rules.proofs.Settings.{for-aces}
 use Rattle.rules.specs.Matrix.{matrixFor, matrixOf, acesNumber, IsAces}
-use Rattle.rules.specs.Pixels.{triple}
+use Rattle.rules.specs.Pixels.{triple, Small3}
 use Rattle.rules.proofs.Search.{NearTriple}
 use Rattle.whole.proofs.Tests.{every, nth, passes, each-of-three}
 use Rattle.row_product.specs.Row.{over}
 use Rattle.row_product.proofs.Nearest.{nearest-of}
-use Rattle.aces_inverse.specs.Reach.{Small3, InReach}
+use Rattle.aces_inverse.specs.Reach.{reach, InReach}
 use Rattle.aces_inverse.specs.Farthest.{farthest}
 use Rattle.aces_inverse.specs.Inverse.{inverseFor, inverseRows, candidate}
 use Rattle.aces_inverse.proofs.Dot.{Three, three, dot, weight, Near3, dot-near, rowAt, times, before, times-before, scaled, dot-scaled}
@@ -84,21 +87,15 @@ picked one zero u = eqZ (add (add (mul (at (u .red)) (at (pos one))) (mul (at (u
 picked one (suc zero) u = eqZ (add (add (mul (at (u .red)) (at (pos 0))) (mul (at (u .green)) (at (pos one)))) (mul (at (u .blue)) (at (pos 0)))) (mul (at (pos one)) (at (u .green))) (omega arith)
 picked one (suc (suc k)) u = eqZ (add (add (mul (at (u .red)) (at (pos 0))) (mul (at (u .green)) (at (pos 0)))) (mul (at (u .blue)) (at (pos one)))) (mul (at (pos one)) (at (u .blue))) (omega arith)
 
--- what numbers a pixel may have, at most, and three of them together
-abbrev largest : ℕ
-largest = 2 ^ 33
-
-abbrev together : ℕ
-together = 3 * largest
-
 -- the errors of a row that weighs at most ρ: of its rounding, of numbers e away that were rounded, and w of its slack
 abbrev errors : (half halfBack ρ w e : ℕ) → ℕ
 errors half halfBack ρ w e = 2 * half * halfBack + (ρ * (2 * half * e + half) + w)
 
 -- the tests, which compute: the row k of n before m is that row of the unit matrix, but for a slack, and it weighs at most ρ; then its errors
--- are less than 2 e + 2 units. As ρ is 2 or more over its scale, a unit more of e adds 2 units or more to them: so less of e passes too
-abbrev undoes : (n m : List (List ℤ)) (half halfBack slack ρ e k : ℕ) → List Bool
-undoes n m half halfBack slack ρ e k =
+-- are less than 2 e + 2 units, with numbers whose sizes together are at most so much. As ρ is 2 or more over its scale, a unit more of e adds 2
+-- units or more to them: so less of e passes too
+abbrev undoes : (n m : List (List ℤ)) (half halfBack slack together ρ e k : ℕ) → List Bool
+undoes n m half halfBack slack together ρ e k =
     leb (natAbs (before (rowAt n k) m .red -ℤ unitRow (2 * half * (2 * halfBack)) k .red)) slack
     ∷ leb (natAbs (before (rowAt n k) m .green -ℤ unitRow (2 * half * (2 * halfBack)) k .green)) slack
     ∷ leb (natAbs (before (rowAt n k) m .blue -ℤ unitRow (2 * half * (2 * halfBack)) k .blue)) slack
@@ -110,7 +107,7 @@ undoes n m half halfBack slack ρ e k =
 easier : (half halfBack ρ w e d : ℕ) → 2 * (2 * halfBack) ≤ ρ → errors half halfBack ρ w (e + d) < 2 * half * (2 * halfBack) * (2 * (e + d) + 2) → errors half halfBack ρ w e < 2 * half * (2 * halfBack) * (2 * e + 2)
 easier half halfBack ρ w e d h l = omega (arith, mul-le-mul-right (2 * half * d) h)
 
-module _ (n m : List (List ℤ)) (half halfBack slack ρ most k : ℕ) (t : T (every (undoes n m half halfBack slack ρ most k))) where
+module _ (n m : List (List ℤ)) (half halfBack slack together ρ most k : ℕ) (t : T (every (undoes n m half halfBack slack together ρ most k))) where
   abbrev one : ℕ
   one = 2 * half * (2 * halfBack)
 
@@ -118,21 +115,21 @@ module _ (n m : List (List ℤ)) (half halfBack slack ρ most k : ℕ) (t : T (e
   unfolding nth
   close =
       record {
-        red = near-test (before (rowAt n k) m .red) (unitRow one k .red) slack (passes (undoes n m half halfBack slack ρ most k) t 0);
-        green = near-test (before (rowAt n k) m .green) (unitRow one k .green) slack (passes (undoes n m half halfBack slack ρ most k) t 1);
-        blue = near-test (before (rowAt n k) m .blue) (unitRow one k .blue) slack (passes (undoes n m half halfBack slack ρ most k) t 2);
+        red = near-test (before (rowAt n k) m .red) (unitRow one k .red) slack (passes (undoes n m half halfBack slack together ρ most k) t 0);
+        green = near-test (before (rowAt n k) m .green) (unitRow one k .green) slack (passes (undoes n m half halfBack slack together ρ most k) t 1);
+        blue = near-test (before (rowAt n k) m .blue) (unitRow one k .blue) slack (passes (undoes n m half halfBack slack together ρ most k) t 2);
       }
 
   light : weight (rowAt n k) ≤ ρ
   unfolding nth
-  light = leb→le (weight (rowAt n k)) ρ (passes (undoes n m half halfBack slack ρ most k) t 3)
+  light = leb→le (weight (rowAt n k)) ρ (passes (undoes n m half halfBack slack together ρ most k) t 3)
 
   less : (e : ℕ) → e ≤ most → errors half halfBack ρ (together * slack) e < one * (2 * e + 2)
   unfolding nth
   less e l =
-      easier half halfBack ρ (together * slack) e (most - e) (leb→le (2 * (2 * halfBack)) ρ (passes (undoes n m half halfBack slack ρ most k) t 4))
+      easier half halfBack ρ (together * slack) e (most - e) (leb→le (2 * (2 * halfBack)) ρ (passes (undoes n m half halfBack slack together ρ most k) t 4))
       (subst (λ (j : ℕ). errors half halfBack ρ (together * slack) j < one * (2 * j + 2)) (let z : most ≡ e + (most - e) = omega arith in z)
-      (ltb→lt (errors half halfBack ρ (together * slack) most) (one * (2 * most + 2)) (passes (undoes n m half halfBack slack ρ most k) t 5)))
+      (ltb→lt (errors half halfBack ρ (together * slack) most) (one * (2 * most + 2)) (passes (undoes n m half halfBack slack together ρ most k) t 5)))
 
   -- numbers a at most e from what m makes of u
   module _ (p : 0 < half) (p′ : 0 < halfBack) (u : Three) (w : weight u ≤ together) (e : ℕ) (l : e ≤ most) (a : Three) (i : Near3 a (apply m half p u) e) where
@@ -158,7 +155,7 @@ module _ (n m : List (List ℤ)) (half halfBack slack ρ most k : ℕ) (t : T (e
     joined : pos (2 * half) *ℤ (pos (2 * halfBack) *ℤ X) ≡ pos one *ℤ X
     joined = eqZ (mul (at (pos (2 * half))) (mul (at (pos (2 * halfBack))) (at X))) (mul (at (pos one)) (at X)) (omega arith)
 
-    -- THE INVERSE LEADS BACK to within 2 e + 1 units
+    -- THEY LEAD BACK to within 2 e + 1 units
     pub undone : Near X (channel u k) (2 * e + 1)
     undone =
         near-cancel one
@@ -173,10 +170,11 @@ halfScale LogC3 = 500000
 halfScale LogC4 = 500000000000000000
 halfScale Unknown = 1
 
+-- for both orders: the matrix before its inverse, and the inverse before its matrix
 abbrev slackOf : CurveName → ℕ
 slackOf LogC2 = 0
-slackOf LogC3 = 504333
-slackOf LogC4 = 414303605123416144
+slackOf LogC3 = 522454
+slackOf LogC4 = 475828786185448968
 slackOf Unknown = 0
 
 -- no row of a matrix weighs more than 1.21, and none of an inverse more than 2.032
@@ -189,12 +187,20 @@ heavy Unknown = 0
 abbrev heavyBack : ℕ
 heavyBack = 2234207627641
 
+-- what numbers a pixel may have, at most
+abbrev largest : ℕ
+largest = 2 ^ 33
+
 -- the tests of a row, computed for each curve
 abbrev weightTest : CurveName → (k : ℕ) → Bool
 weightTest n k = leb (weight (rowAt (matrixFor n .rows) k)) (heavy n)
 
 abbrev backTest : CurveName → (k : ℕ) → Bool
-backTest n k = every (undoes (inverseFor n) (matrixFor n .rows) (halfScale n) (2 ^ 39) (slackOf n) heavyBack farthest k)
+backTest n k = every (undoes (inverseFor n) (matrixFor n .rows) (halfScale n) (2 ^ 39) (slackOf n) (3 * largest) heavyBack farthest k)
+
+-- of the other order: at distance 0, with a row that may weigh up to 2
+abbrev thereTest : CurveName → (k : ℕ) → Bool
+thereTest n k = every (undoes (matrixFor n .rows) (inverseFor n) (2 ^ 39) (halfScale n) (slackOf n) (3 * reach) (2 * (2 * halfScale n)) 0 k)
 
 -- ---- of a setting
 near-zero : {k : ℕ} {x y z : ℤ} → Small3 k x y z → Near3 (three x y z) (three (pos 0) (pos 0) (pos 0)) k
@@ -213,28 +219,42 @@ module _ (s : Setting) (v : ValidForAces s) where
   weighs : (k : ℕ) → k < 3 → T (leb (weight (rowAt (matrixOf s .rows) k)) (heavy c))
   weighs k h = for-aces (λ n. T (weightTest n k)) (each-of-three (λ i. T (weightTest LogC3 i)) tt tt tt k h) (each-of-three (λ i. T (weightTest LogC4 i)) tt tt tt k h) s v
 
-  takes-back : (k : ℕ) → k < 3 → T (every (undoes (inverseRows s) (matrixOf s .rows) (halfScale c) (2 ^ 39) (slackOf c) heavyBack farthest k))
+  takes-back : (k : ℕ) → k < 3 → T (every (undoes (inverseRows s) (matrixOf s .rows) (halfScale c) (2 ^ 39) (slackOf c) (3 * largest) heavyBack farthest k))
   takes-back k h = for-aces (λ n. T (backTest n k)) (each-of-three (λ i. T (backTest LogC3 i)) tt tt tt k h) (each-of-three (λ i. T (backTest LogC4 i)) tt tt tt k h) s v
 
   -- of given ACES numbers a candidate may be encoded
-  pub candidate-small : (x y z : ℤ) → InReach x y z → (k : ℕ) → k < 3 → natAbs (candidate s k x y z) ≤ 2 ^ 40
+  candidate-small : (x y z : ℤ) → InReach x y z → (k : ℕ) → k < 3 → natAbs (candidate s k x y z) ≤ 2 ^ 40
   candidate-small x y z h k l =
-      row-size (inverseRows s) (2 ^ 39) (lit< tt) k heavyBack (2 ^ 38) (2 ^ 40) (three x y z)
-      (light (inverseRows s) (matrixOf s .rows) (halfScale c) (2 ^ 39) (slackOf c) heavyBack farthest k (takes-back k l))
+      row-size (inverseRows s) (2 ^ 39) (lit< tt) k heavyBack (reach) (2 ^ 40) (three x y z)
+      (light (inverseRows s) (matrixOf s .rows) (halfScale c) (2 ^ 39) (slackOf c) (3 * largest) heavyBack farthest k (takes-back k l))
       (near-zero h) (lit< tt)
+
+  pub candidate-encodes : (x y z : ℤ) → InReach x y z → (k : ℕ) → k < 3 → sceneCheck (candidate s k x y z) ≡ Passed
+  candidate-encodes x y z h k l = scene-passes (candidate s k x y z) (candidate-small x y z h k l)
 
   -- the matrix, with its scale
   same : (i : ℕ) (x y z : ℤ) → acesNumber (matrixOf s) i x y z ≡ acesNumber (over (2 * halfScale c) (matrixOf s .rows)) i x y z
   same i x y z = for-aces (λ n. acesNumber (matrixFor n) i x y z ≡ acesNumber (over (2 * halfScale n) (matrixFor n .rows)) i x y z) refl refl s v
 
-  -- the ACES numbers of scene numbers up to 2 ^ 33 are at most 2 ^ 38, with room for a distance
-  made-small : (x y z : ℤ) → Small3 largest x y z → (k : ℕ) → k < 3 → natAbs (acesNumber (matrixOf s) k x y z) ≤ 2 ^ 38 - farthest
+  there-and-back : (k : ℕ) → k < 3 → T (every (undoes (matrixOf s .rows) (inverseRows s) (2 ^ 39) (halfScale c) (slackOf c) (3 * reach) (2 * (2 * halfScale c)) 0 k))
+  there-and-back k h = for-aces (λ n. T (thereTest n k)) (each-of-three (λ i. T (thereTest LogC3 i)) tt tt tt k h) (each-of-three (λ i. T (thereTest LogC4 i)) tt tt tt k h) s v
+
+  -- THE ACES NUMBERS OF CANDIDATES are at most one unit from the numbers that these are for
+  pub candidates-near : (x y z : ℤ) → InReach x y z → (k : ℕ) → k < 3 → Near (acesNumber (matrixOf s) k (candidate s 0 x y z) (candidate s 1 x y z) (candidate s 2 x y z)) (channel (three x y z) k) 1
+  candidates-near x y z h k l =
+      rw (same k (candidate s 0 x y z) (candidate s 1 x y z) (candidate s 2 x y z))
+      (undone (matrixOf s .rows) (inverseRows s) (2 ^ 39) (halfScale c) (slackOf c) (3 * reach) (2 * (2 * halfScale c)) 0 k (there-and-back k l) (lit< tt) (positive c) (three x y z)
+      (omega (arith, h .red, h .green, h .blue)) 0 (lit≤ tt) (three (candidate s 0 x y z) (candidate s 1 x y z) (candidate s 2 x y z))
+      (record { red = same-near refl; green = same-near refl; blue = same-near refl }))
+
+  -- the ACES numbers of scene numbers up to 2 ^ 33 are in reach, with room for a distance
+  made-small : (x y z : ℤ) → Small3 largest x y z → (k : ℕ) → k < 3 → natAbs (acesNumber (matrixOf s) k x y z) ≤ reach - farthest
   made-small x y z h k l =
       rw (same k x y z)
-      (row-size (matrixOf s .rows) (halfScale c) (positive c) k (heavy c) largest (2 ^ 38 - farthest) (three x y z) (leb→le (weight (rowAt (matrixOf s .rows) k)) (heavy c) (weighs k l)) (near-zero h) fits)
+      (row-size (matrixOf s .rows) (halfScale c) (positive c) k (heavy c) largest (reach - farthest) (three x y z) (leb→le (weight (rowAt (matrixOf s .rows) k)) (heavy c) (weighs k l)) (near-zero h) fits)
     where
-      fits : heavy (named (s .curve)) * largest + halfScale (named (s .curve)) < 2 * halfScale (named (s .curve)) * suc (2 ^ 38 - farthest)
-      fits = for-aces (λ n. heavy n * largest + halfScale n < 2 * halfScale n * suc (2 ^ 38 - farthest)) (lit< tt) (lit< tt) s v
+      fits : heavy (named (s .curve)) * largest + halfScale (named (s .curve)) < 2 * halfScale (named (s .curve)) * suc (reach - farthest)
+      fits = for-aces (λ n. heavy n * largest + halfScale n < 2 * halfScale n * suc (reach - farthest)) (lit< tt) (lit< tt) s v
 
   -- numbers at most e from the ACES numbers of such scene numbers
   module _ (x y z : ℤ) (h : Small3 largest x y z) (e : ℕ) (l : e ≤ farthest) (a : Triple)
@@ -248,7 +268,7 @@ module _ (s : Setting) (v : ValidForAces s) where
           blue = small (i .blue) (made-small x y z h 2 (lit< tt));
         }
       where
-        small : {p q : ℤ} → Near p q e → natAbs q ≤ 2 ^ 38 - farthest → natAbs p ≤ 2 ^ 38
+        small : {p q : ℤ} → Near p q e → natAbs q ≤ reach - farthest → natAbs p ≤ reach
         small n g = near-abs (near-more (omega arith) (near-join n (abs-near g)))
 
     near-made : Near3 (three (a .red .0) (a .green .0) (a .blue .0)) (apply (matrixOf s .rows) (halfScale c) (positive c) (three x y z)) e
@@ -262,7 +282,7 @@ module _ (s : Setting) (v : ValidForAces s) where
     -- and lead to within 2 e + 1 units of the scene numbers
     pub candidate-near : (k : ℕ) → k < 3 → Near (candidate s k (a .red .0) (a .green .0) (a .blue .0)) (channel (three x y z) k) (2 * e + 1)
     candidate-near k g =
-        undone (inverseRows s) (matrixOf s .rows) (halfScale c) (2 ^ 39) (slackOf c) heavyBack farthest k (takes-back k g) (positive c) (lit< tt) (three x y z)
+        undone (inverseRows s) (matrixOf s .rows) (halfScale c) (2 ^ 39) (slackOf c) (3 * largest) heavyBack farthest k (takes-back k g) (positive c) (lit< tt) (three x y z)
         (omega (arith, h .red, h .green, h .blue)) e l (three (a .red .0) (a .green .0) (a .blue .0)) near-made
 
   -- at distance 0

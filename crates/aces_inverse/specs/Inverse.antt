@@ -1,5 +1,6 @@
 -- Matrices that lead back from ACES numbers to scene numbers, nearly: the inverses of the published ones, over 2 ^ 40. They are no part of
--- the rules: what they give is only a candidate, which is taken to ACES again and compared.
+-- the rules. To the way back what they give is only a candidate, which is taken to ACES again and compared. Of graded numbers it is the scene
+-- triple, which 02 leaves free as long as its ACES numbers are near.
 -- Assumes nothing.
 use mathlib.Core.List.{List, [], _∷_, map}
 use Prim.Native.Nat.{ℕ, _^_}
@@ -9,7 +10,10 @@ use Rattle.rules.specs.declared.CurveName.{CurveName}
 use Rattle.rules.specs.declared.CurveName.the-variants.{LogC2, LogC3, LogC4, Unknown}
 use Rattle.rules.specs.Setting.{named}
 use Rattle.whole.specs.Parts.{minus}
-use Rattle.rules.specs.Matrix.{Matrix, acesNumber, IsAces}
+use Rattle.rules.specs.declared.Scenes.{Scenes}
+use Rattle.rules.specs.declared.Triple.{Triple}
+use Rattle.rules.specs.Matrix.{Matrix, acesNumber}
+use Rattle.rules.specs.Pixels.{scenes}
 use Rattle.row_product.specs.Row.{over}
 use Rattle.row_product.specs.Digits.{upper, lower}
 
@@ -54,5 +58,6 @@ inverseOf s = over (2 ^ 40) (inverseRows s)
 abbrev pub candidate : Setting → (i : ℕ) → (a b c : ℤ) → ℤ
 candidate s i a b c = acesNumber (inverseOf s) i a b c
 
-abbrev pub IsCandidate : Setting → (a b c x y z : ℤ) → Type 0
-IsCandidate s a b c x y z = IsAces (inverseOf s) a b c x y z
+abbrev pub candidates : Setting → Triple → Scenes
+candidates s a =
+    scenes (candidate s 0 (a .red .0) (a .green .0) (a .blue .0)) (candidate s 1 (a .red .0) (a .green .0) (a .blue .0)) (candidate s 2 (a .red .0) (a .green .0) (a .blue .0))

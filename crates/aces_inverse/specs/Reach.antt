@@ -1,12 +1,12 @@
--- Three numbers of which each is at most k without its sign, and the ACES numbers that the way back tries.
+-- The ACES numbers that the inverse takes: those of the way back and of the graded road.
 -- Assumes nothing.
-use Prim.Native.Nat.{ℕ, _^_, _≤_}
-use lib.IntN.{ℤ, natAbs}
+use Prim.Native.Nat.{ℕ, _^_}
+use lib.IntN.{ℤ}
+use Rattle.rules.specs.Pixels.{Small3}
 
-pub record Small3 (k : ℕ) (x y z : ℤ) : Type 0 where
-  pub red : natAbs x ≤ k
-  pub green : natAbs y ≤ k
-  pub blue : natAbs z ≤ k
+-- no pixel has an ACES number beyond it
+abbrev pub reach : ℕ
+reach = 2 ^ 38
 
 abbrev pub InReach : (a b c : ℤ) → Type 0
-InReach a b c = Small3 (2 ^ 38) a b c
+InReach a b c = Small3 reach a b c

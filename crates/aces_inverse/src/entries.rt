@@ -13,13 +13,15 @@ const BACK_4: [[i64; 3]; 3] = [
     [730062762, 826298081, 1097955266932],
 ];
 
-// Their entries by two digits to the base 2^21. A digit has the sign of its entry.
-pub const P21: i64 = 1 << 21;
+// Their entries by two digits of so many bits. A digit has the sign of its entry.
+pub const DIGIT: i64 = 21;
 
-// What is left of 2^40 over that base, and half of it.
-pub const REST: i64 = 1 << 19;
+const P21: i64 = 1 << DIGIT;
 
-pub const HALF: i64 = 1 << 18;
+// The bits that are left of 40, and the half that is added before the shift by them.
+pub const REST: i64 = 40 - DIGIT;
+
+pub const HALF: i64 = 1 << (REST - 1);
 
 pub const BACK_3_HIGH: [[i64; 3]; 3] = [
     [BACK_3[0][0] / P21, BACK_3[0][1] / P21, BACK_3[0][2] / P21],

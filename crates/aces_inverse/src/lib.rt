@@ -1,26 +1,21 @@
-// From ACES numbers back to the scene numbers beside a pixel's: the inverse of its matrix, rounded once.
+// From ACES numbers back to scene numbers: the inverse of the setting's matrix, rounded once.
 ghost use mathlib.Core.Path.{_≡_};
 ghost use Prim.Native.Nat.{_^_};
 ghost use Rattle.rules.specs.Fraction.{integer, whole, _/ℚ_, nearest};
+ghost use Rattle.rules.specs.Pixels.{triple};
 ghost use Rattle.rules.specs.Setting.{ValidForAces};
 ghost use Rattle.row_product.specs.Row.{Sum};
 ghost use Rattle.aces_inverse.specs.Reach.{InReach};
-ghost use Rattle.aces_inverse.specs.Inverse.{lowRows, highRows, pair, IsCandidate};
+ghost use Rattle.aces_inverse.specs.Inverse.{lowRows, highRows, pair, candidates};
 
 mod entries;
 
 use curves::log_c3::LogC3;
 use curves::log_c4::LogC4;
+use rules::Aces;
 use rules::Scene;
+use rules::Scenes;
 use rules::Setting;
-use rules::Triple;
-
-// The three scene numbers that a way back tries.
-pub struct Scenes {
-    pub red: Scene,
-    pub green: Scene,
-    pub blue: Scene,
-}
 
 // The digits of the inverse of a setting's matrix. (By the curve's number, as the matrix is chosen. The last
 // arm is of no setting that is valid for ACES.)
@@ -54,21 +49,22 @@ fn over_binary(l: i64, h: i64) -> i64
     requires { ⌜ Sum h ⌝ }
     ensures { λ r. ⌜ r ≡ nearest (integer (pair h l) /ℚ whole (2 ^ 40)) ⌝ }
 {
-    let carry = whole::floor_div(l, entries::P21);
-    whole::floor_div(h + carry + entries::HALF, entries::REST)
+    let carry = l >> entries::DIGIT;
+    (h + carry + entries::HALF) >> entries::REST
 }
 
-// The scene numbers that a way back tries for three ACES numbers.
-pub fn candidate(s: Setting, a: Triple) -> Scenes
+// The scene numbers for three ACES numbers: those that a way back tries, and those of graded numbers. (The numbers are passed one by one, in
+// registers: docs/DECISIONS.md.)
+pub fn candidate(s: Setting, red: Aces, green: Aces, blue: Aces) -> Scenes
     requires { ⌜ ValidForAces s ⌝ }
-    requires { ⌜ InReach (a .red .0) (a .green .0) (a .blue .0) ⌝ }
-    ensures { λ r. ⌜ IsCandidate s (a .red .0) (a .green .0) (a .blue .0) (r .red .0) (r .green .0) (r .blue .0) ⌝ }
+    requires { ⌜ InReach (red .0) (green .0) (blue .0) ⌝ }
+    ensures { λ r. ⌜ r ≡ candidates s (triple (red .0) (green .0) (blue .0)) ⌝ }
 {
-    let red = a.red.0;
-    let green = a.green.0;
-    let blue = a.blue.0;
-    let l = row_product::products(low_of(s), red, green, blue);
-    let h = row_product::products(high_of(s), red, green, blue);
+    let x = red.0;
+    let y = green.0;
+    let z = blue.0;
+    let l = row_product::products(low_of(s), x, y, z);
+    let h = row_product::products(high_of(s), x, y, z);
     Scenes {
         red: Scene(over_binary(l.red, h.red)),
         green: Scene(over_binary(l.green, h.green)),

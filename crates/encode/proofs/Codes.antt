@@ -1,22 +1,17 @@
 -- Of a valid setting: its numbers may be searched, and what lies between the midpoints of a step has that step, and its code.
 -- Assumes nothing.
-use mathlib.Core.Bool.{Bool, false}
 use mathlib.Core.Path.{_≡_, sym, ap, _∙_}
-use Prim.Native.Nat.{ℕ, _-_, _^_, _≤_}
+use Prim.Native.Nat.{ℕ, _^_, _≤_}
 use native.Mathlib.Omega.{arith}
-use lib.Dec.{T}
-use lib.IntN.{ℤ, pos, negsuc}
-use lib.Signed.{leZ}
+use lib.IntN.{ℤ}
 use Rattle.whole.specs.Parts.{up, dn}
-use Rattle.whole.proofs.Reflect.{at, one-zero, leN-of}
+use Rattle.whole.proofs.Reflect.{abs-is}
 use Rattle.rules.specs.declared.Check.the-variants.{Passed}
-use Rattle.rules.specs.declared.Refusal.the-variants.{SceneOutOfRange}
 use Rattle.rules.specs.declared.Setting.{Setting}
-use Rattle.rules.specs.Choice.{choose}
 use Rattle.rules.specs.Setting.{lastOf, codeAt, Valid}
 use Rattle.rules.specs.Exact.{scaleOf}
 use Rattle.rules.specs.Encoding.{numberAt, closest, sceneCheck}
-use Rattle.rules.proofs.Settings.{passed-only, first, others}
+use Rattle.rules.proofs.Between.{scene-small}
 use Rattle.rules.proofs.Closest.{closest-is-nearest, nearest-only}
 use Rattle.rules.proofs.Codes.{step-of-code, last-small}
 use Rattle.curve_table.specs.Table.{tableOf}
@@ -30,17 +25,7 @@ use Rattle.encode.proofs.Midpoints.{Within, within-nearest}
 
 -- a scene number that passes
 pub scene-passed : (x : ℤ) → sceneCheck x ≡ Passed → (up x ≤ 2 ^ 40) × (dn x ≤ 2 ^ 40)
-unfolding sceneCheck
-scene-passed x e = (omega (arith, leN-of (at x) (at (pos (2 ^ 40))) (record { le = others low high t }), one-zero x), omega (arith, leN-of (at (negsuc (2 ^ 40 - 1))) (at x) (record { le = first low high t }), one-zero x))
-  where
-    low : Bool
-    low = leZ (negsuc (2 ^ 40 - 1)) x
-
-    high : Bool
-    high = leZ x (pos (2 ^ 40))
-
-    t : T (choose low high false)
-    t = passed-only (choose low high false) SceneOutOfRange e
+scene-passed x e = (omega (arith, abs-is x, scene-small x e), omega (arith, abs-is x, scene-small x e))
 
 -- the number of a step, by its code
 pub number-at : (s : Setting) → numberAt decoded s ≡ decodedAt s

@@ -1,27 +1,23 @@
 -- Any conversion channel by channel: a strip whose records pass is converted, and each channel that is written is R to the channel that it is
 -- written for.
 -- Assumes nothing.
-use mathlib.Core.Path.{_≡_, sym, ap, _∙_, subst}
+use mathlib.Core.Path.{_≡_, sym, subst}
 use mathlib.Core.List.{List}
 use Prim.Native.Nat.{ℕ, _*_, _^_, _≤_, _<_}
-use native.Mathlib.Nat.{le-of-eq, zero-add}
-use lib.ListN.{length, drop}
-use Rattle.rules.specs.declared.Answer.{Answer}
-use Rattle.rules.specs.declared.Answer.the-variants.{Done}
+use native.Mathlib.Nat.{le-of-eq}
+use lib.ListN.{length}
 use Rattle.rules.specs.declared.Check.{Check}
 use Rattle.rules.specs.declared.Check.the-variants.{Passed}
 use Rattle.rules.specs.declared.Setting.{Setting}
 use Rattle.rules.specs.Record.{IsBytes, sizeOf, settingOf, channelAt}
-use Rattle.rules.specs.Strip.{recordCheck, recordAt, answerOf, outputAfter}
-use Rattle.rules.specs.Result.{stripResult}
+use Rattle.rules.specs.Strip.{recordCheck, recordAt}
 use Rattle.rules.proofs.Records.{length-record}
 use Rattle.record_conversion.proofs.Good.{Good}
 use Rattle.record_conversion.proofs.Channelwise.{setting-passes, channel-small, channel-passes, setting-copied, channel-written}
 use Rattle.strip_passes.proofs.Cut.{length-at}
-use Rattle.strip.proofs.First.{all-done}
-use Rattle.strip.proofs.Back.{whole-done}
 use Rattle.promise.specs.Each.{EachChannel, ConvertedEach}
-use Rattle.promise.proofs.Strips.{written-at, bytes-at}
+use Rattle.promise.proofs.Strips.{bytes-at}
+use Rattle.promise.proofs.Each.{each-converted}
 use Rattle.rules.specs.Conversions.{channelwise}
 
 -- what is written for a channel that passes fits, and is R to the channel
@@ -49,21 +45,6 @@ module _ (setting : Setting → Check) (a b : ℕ) (check : Setting → ℕ → 
         }
 
     pub strip-each : 0 < sizeOf a → n * sizeOf b ≤ length output → ConvertedEach (channelwise setting a b check one) (EachChannel a b R) input output n
-    unfolding outputAfter
     strip-each p room =
-        record {
-          answers = ap stripResult (sym converted);
-          each = λ k i.
-              subst (EachChannel a b R (recordAt (sizeOf a) k input))
-              (sym (ap (λ (x : Answer). recordAt (sizeOf b) k (outputAfter (channelwise setting a b check one) input output x)) (sym converted) ∙ written-at (channelwise setting a b check one .bytes) (sizeOf b) (λ r. length-record b (settingOf r) _) (sizeOf a) n input (drop (n * sizeOf b) output) k i))
-              (record-each (recordAt (sizeOf a) k input) (good k i));
-        }
-      where
-        converted : Done n ≡ answerOf (channelwise setting a b check one) input output
-        converted =
-            whole-done (channelwise setting a b check one) input output n p
-            (record {
-              long = l;
-              room = room;
-              passes = sym (all-done (recordCheck (channelwise setting a b check one)) (sizeOf a) n input 0 passes ∙ ap Done (zero-add n));
-            })
+        each-converted (channelwise setting a b check one) (λ r. length-record b (settingOf r) _) p (EachChannel a b R) input output n l passes
+        (λ k i. record-each (recordAt (sizeOf a) k input) (good k i)) room

@@ -1,6 +1,7 @@
 pub mod Single
 pub mod Strips
 pub mod Theorems
+pub mod Each
 pub mod EachChannel
 pub mod Scenes
 pub mod Calls

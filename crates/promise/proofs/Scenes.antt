@@ -2,7 +2,7 @@
 -- number of the same channel's code, and for an accepted scene strip each code written is the
 -- nearest one, within two thirds of a code where it is not clipped. For every strip of bytes, settings mixed.
 -- Assumes nothing.
-use mathlib.Core.Path.{_≡_, refl, sym, subst}
+use mathlib.Core.Path.{_≡_, sym, subst}
 use mathlib.Core.List.{List}
 use Prim.Native.Nat.{ℕ, _*_, _^_, _≤_, _<_}
 use lib.Dec.{lit<}
@@ -16,7 +16,8 @@ use Rattle.rules.specs.Strip.{recordCheck, recordAt}
 use Rattle.rules.proofs.Codes.{code-small}
 use Rattle.decode.proofs.Theorems.{decoding}
 use Rattle.encode.specs.Encoded.{encodedStep}
-use Rattle.encode.proofs.Theorems.{encoded-nearest, encoded-two-thirds}
+use Rattle.encode.proofs.Theorems.{encoded-nearest}
+use Rattle.encode.proofs.Answers.{code-encodes}
 use Rattle.record_conversion.specs.Conversions.{sceneBits, codeBits, pixelToScene, sceneToPixel}
 use Rattle.record_conversion.proofs.SceneBits.{scene-fits, scene-read}
 use Rattle.promise.specs.Each.{ConvertedEach}
@@ -43,7 +44,7 @@ module _ (s : Setting) (v : Valid s) (bits : ℕ) (e : numberCheck s bits ≡ Pa
   code-fits = code-small s (encodedStep s (ofBits numberBytes bits)) (encoded-nearest s (ofBits numberBytes bits) .in-range)
 
   code-encoded : IsEncoded s bits (codeBits s bits)
-  code-encoded = record { step = encodedStep s (ofBits numberBytes bits); code = refl; nearest = encoded-nearest s (ofBits numberBytes bits); two-thirds = encoded-two-thirds s v (ofBits numberBytes bits) }
+  code-encoded = code-encodes s v (ofBits numberBytes bits)
 
 scene-passes : (r : List ℕ) → HoldsScene r → recordCheck sceneToPixel r ≡ Passed
 unfolding channelChecks

@@ -1,8 +1,9 @@
 -- One record: an ACES record passes the checks of the way back exactly where a pixel gives it; and pixel to ACES and back returns a record.
 -- Assumes nothing.
-use mathlib.Core.Path.{_≡_, refl, ap, sym, _∙_, subst}
+use mathlib.Core.Path.{_≡_, refl, ap, sym, _∙_}
 use mathlib.Core.List.{List}
-use Prim.Native.Nat.{ℕ, _+_, _*_, _<_}
+use Prim.Native.Nat.{ℕ, _+_, _*_, _^_}
+use native.Mathlib.Omega.{arith}
 use lib.ListN.{length, drop}
 use Rattle.rules.specs.declared.Check.{Check}
 use Rattle.rules.specs.declared.Check.the-variants.{Passed, Refused}
@@ -15,14 +16,15 @@ use Rattle.rules.specs.declared.Setting.{Setting}
 use Rattle.rules.specs.declared.Triple.{Triple}
 use Rattle.rules.specs.Refusal.{then, numberOf, numberOfCheck}
 use Rattle.rules.specs.Setting.{acesCheck, codeCheck, ValidForAces}
-use Rattle.rules.specs.Matrix.{matrixOf, IsAces}
-use Rattle.rules.specs.Record.{IsBytes, toBits, ofBits, codeBytes, settingOf, Channels, channelAt, channelsOf, recordOf, pixelIn, pixelRecord, tripleIn, acesRecord, numbersSize, settingBytes, numberBytes}
+use Rattle.rules.specs.Record.{IsBytes, toBits, ofBits, codeBytes, settingOf, channelAt, recordOf, pixelIn, pixelRecord, tripleIn, acesRecord, numbersSize, settingBytes, numberBytes}
 use Rattle.rules.specs.Strip.{recordCheck}
 use Rattle.rules.specs.WayBack.{foundCheck}
-use Rattle.rules.proofs.Records.{FitsRecord, value-small, drop-bytes, read-setting, read-channels, write-read, of-to, to-of, bits-fit, length-record}
+use Rattle.rules.proofs.Written as written
+use Rattle.rules.proofs.Written.{FitsSetting, fits-setting}
+use Rattle.rules.proofs.Records.{value-small, drop-bytes, write-read, to-of}
 use Rattle.rules.proofs.Settings.{aces-valid, both, refused-never}
 use Rattle.decode.specs.Decoded.{decoded}
-use Rattle.aces_inverse.specs.Reach.{Small3, InReach}
+use Rattle.aces_inverse.specs.Reach.{InReach}
 use Rattle.aces_inverse.proofs.Inverse.{aces-small}
 use Rattle.decode.proofs.Distance.{decoded-small}
 use Rattle.way_back.specs.Back.{pixelFor}
@@ -30,9 +32,8 @@ use Rattle.way_back.proofs.Theorems.{found-gives, own-found, one-pixel}
 use Rattle.record_conversion.specs.Conversions.{pixelToAces, acesToPixel}
 use Rattle.rules.proofs.Channels.{codes-pixel}
 use Rattle.record_conversion.proofs.Good.{Good}
-use Rattle.record_conversion.proofs.SceneBits.{small-fits}
-use Rattle.promise.specs.Words.{given, HoldsPixel, Without, OnlyPixel, refusalOf}
-use Rattle.rules.specs.Pixels.{IsPixel}
+use Rattle.promise.specs.Words.{given, Without, OnlyPixel, refusalOf}
+use Rattle.rules.specs.Pixels.{IsPixel, Small3}
 use Rattle.rules.specs.Conversions.{channelChecks, pixelFound}
 use Rattle.aces.specs.OfPixel.{pixelAces}
 
@@ -47,47 +48,18 @@ pixel-given s v p i =
     })
     (record { red-is = refl; green-is = refl; blue-is = refl })
 
--- the setting of a record fits its bytes
-pub record FitsSetting (s : Setting) : Type 0 where
-  pub curve : s .curve < 256
-  pub width : s .width < 256
-  pub ei : s .ei < 65536
-
-fits-setting : (r : List ℕ) → IsBytes r → FitsSetting (settingOf r)
-fits-setting r h = record { curve = h 0; width = h 1; ei = value-small 2 (drop 2 r) (drop-bytes 2 r h) }
-
 -- ---- what is read of an ACES record that was written
 module _ (s : Setting) (f : FitsSetting s) (a : Triple) (g : InReach (a .red .0) (a .green .0) (a .blue .0)) where
-  abbrev channels : Channels
-  channels = record { red = toBits numberBytes (a .red .0); green = toBits numberBytes (a .green .0); blue = toBits numberBytes (a .blue .0) }
-
-  fits : FitsRecord numberBytes s channels
-  fits =
-      let r = small-fits (a .red .0) (g .red) in
-      let e = small-fits (a .green .0) (g .green) in
-      let b = small-fits (a .blue .0) (g .blue) in
-      record {
-        curve = f .curve;
-        width = f .width;
-        ei = f .ei;
-        red = bits-fit numberBytes (a .red .0) (r .0) (r .1);
-        green = bits-fit numberBytes (a .green .0) (e .0) (e .1);
-        blue = bits-fit numberBytes (a .blue .0) (b .0) (b .1);
-      }
+  fit : Small3 (2 ^ 40) (a .red .0) (a .green .0) (a .blue .0)
+  fit = record { red = omega (arith, g .red); green = omega (arith, g .green); blue = omega (arith, g .blue) }
 
   pub setting-read : settingOf (acesRecord s a) ≡ s
-  setting-read = read-setting numberBytes s channels fits
+  setting-read = written.setting-read s f (a .red .0) (a .green .0) (a .blue .0) fit
 
   pub triple-read : tripleIn (acesRecord s a) ≡ a
   triple-read =
-      let e = read-channels numberBytes s channels fits in
-      let r = small-fits (a .red .0) (g .red) in
-      let n = small-fits (a .green .0) (g .green) in
-      let b = small-fits (a .blue .0) (g .blue) in
-      let er = ap (λ (c : Channels). ofBits numberBytes (c .red)) e ∙ of-to numberBytes (a .red .0) (r .0) (r .1) in
-      let eg = ap (λ (c : Channels). ofBits numberBytes (c .green)) e ∙ of-to numberBytes (a .green .0) (n .0) (n .1) in
-      let eb = ap (λ (c : Channels). ofBits numberBytes (c .blue)) e ∙ of-to numberBytes (a .blue .0) (b .0) (b .1) in
-      λ i. record { red = record { 0 = er i }; green = record { 0 = eg i }; blue = record { 0 = eb i } }
+      let e = written.numbers-read s f (a .red .0) (a .green .0) (a .blue .0) fit in
+      λ i. record { red = record { 0 = e .0 i }; green = record { 0 = e .1 i }; blue = record { 0 = e .2 i } }
 
 -- ---- an ACES record is the record of its setting and numbers
 pub record-read : (r : List ℕ) → IsBytes r → length r ≡ numbersSize → acesRecord (settingOf r) (tripleIn r) ≡ r

@@ -5,12 +5,12 @@
 use mathlib.Core.Path.{_≡_, refl, ap, sym, _∙_, subst}
 use mathlib.Core.Logic.{_↔_}
 use mathlib.Core.List.{List, [], _∷_, _++_}
-use Prim.Native.Nat.{ℕ, zero, suc, _+_, _*_, _/_, _≤_, _<_}
+use Prim.Native.Nat.{ℕ, zero, suc, _+_, _*_, _≤_, _<_}
 use native.Mathlib.Nat.{le-of-eq, zero-add}
 use native.Mathlib.Omega.{arith}
 use lib.Dec.{lit<}
 use lib.IntN.{ℤ}
-use lib.ListN.{length, take, drop}
+use lib.ListN.{length, drop}
 use Rattle.rules.specs.declared.Answer.{Answer}
 use Rattle.rules.specs.declared.Answer.the-variants.{Done, Refused}
 use Rattle.rules.specs.declared.Check.{Check}
@@ -39,14 +39,15 @@ use Rattle.decode.proofs.Theorems.{decoding}
 use Rattle.aces.proofs.Theorems.{aces-within, equal-codes}
 use Rattle.record_conversion.specs.Conversions.{pixelToAces, acesToPixel}
 use Rattle.record_conversion.proofs.Good.{Good}
-use Rattle.strip_passes.proofs.FirstPass.{scan-passes, counted}
+use Rattle.strip_passes.proofs.FirstPass.{scan-passes}
 use Rattle.strip_passes.proofs.Cut.{length-at}
-use Rattle.strip.proofs.First.{FirstRefused, all-done, first-answered, answered-first}
+use Rattle.strip.proofs.First.{first-answered, answered-first}
 use Rattle.strip.proofs.Join.{whole-answer}
 use Rattle.strip.proofs.Back as back
+use Rattle.strip.proofs.Same.{converted-exactly}
 use Rattle.way_back.specs.Back.{pixelFor, wayBackResult}
 use Rattle.way_back.proofs.Theorems.{found-gives, one-pixel, nothing-gives}
-use Rattle.promise.specs.Words.{Accepted, HoldsPixel, IsGrey, acesStrip, numberIn, stepIn, NearExact, Without, OnlyPixel, SomeWithout, FirstWithout, refusalOf, refusedAt, ReportsFirst, WithoutPixel, IsOnlyPixel, GivesOnly}
+use Rattle.promise.specs.Words.{Accepted, HoldsPixel, IsGrey, acesStrip, numberIn, stepIn, NearExact, Without, OnlyPixel, SomeWithout, FirstWithout, refusalOf, refusedAt, ReportsFirst, WithoutPixel, GivesOnly}
 use Rattle.promise.proofs.Single.{same-triple, back-passes, back-same, passed-only, not-both, refused-without, refusal-number}
 use Rattle.promise.proofs.Strips.{written-at, bytes-at, aces-long, accepted-good, accepted-whole, aces-strip-records, aces-strip-long, aces-strip-at}
 
@@ -156,7 +157,7 @@ module _ (aces output : List ℕ) (n : ℕ) (h : IsBytes aces) (l : length aces 
   scanned = whole-answer acesToPixel aces output n (lit< tt) l room
 
   converted-passes : resultOf acesToPixel aces output ≡ done (n ∷ []) → (k : ℕ) → k < n → recordCheck acesToPixel (recordAt numbersSize k aces) ≡ check.Check.Passed
-  converted-passes e k i = scan-passes (recordCheck acesToPixel) numbersSize n aces 0 n (done-answer (answerOf acesToPixel aces output) n e ∙ scanned) k i
+  converted-passes = converted-exactly acesToPixel (lit< tt) aces output n l room .0
 
   -- a record that is not without a pixel passes
   with-pixel : (k : ℕ) → k < n → (Without (recordAt numbersSize k aces) → ⊥) → recordCheck acesToPixel (recordAt numbersSize k aces) ≡ check.Check.Passed
@@ -198,7 +199,7 @@ module _ (aces output : List ℕ) (n : ℕ) (h : IsBytes aces) (l : length aces 
   pub converts-exactly : (resultOf acesToPixel aces output ≡ done (n ∷ [])) ↔ ((k : ℕ) → k < n → Without (recordAt numbersSize k aces) → ⊥)
   converts-exactly = (
     λ e k i w. not-both (recordAt numbersSize k aces) (bytes-at numbersSize k aces h) (whole-at k i) w (converted-passes e k i),
-    λ never. ap stripResult (scanned ∙ all-done (recordCheck acesToPixel) numbersSize n aces 0 (λ k i. with-pixel k i (never k i)) ∙ ap Done (zero-add n)),
+    λ never. converted-exactly acesToPixel (lit< tt) aces output n l room .1 (λ k i. with-pixel k i (never k i)),
   )
 
   -- some record is without a pixel: then it refuses, and reports the first

@@ -13,7 +13,7 @@ use Rattle.rules.specs.Setting.{Valid}
 use Rattle.rules.proofs.Records.{length-record}
 use Rattle.rules.proofs.Settings.{aces-valid}
 use Rattle.record_conversion.specs.declared.Kind.{Kind}
-use Rattle.record_conversion.specs.declared.Kind.the-variants.{PixelToScene, SceneToPixel, PixelToAces, AcesToPixel, AcesToHalf, HalfToAces}
+use Rattle.record_conversion.specs.declared.Kind.the-variants.{PixelToScene, SceneToPixel, PixelToAces, AcesToPixel, AcesToHalf, HalfToAces, GradedToPixel, GradedToScene}
 use Rattle.record_conversion.specs.Conversions.{conversionOf}
 
 pub kind-valid : (k : Kind) (s : Setting) → conversionOf k .setting s ≡ Passed → Valid s
@@ -23,6 +23,8 @@ kind-valid PixelToAces s e = aces-valid s e
 kind-valid AcesToPixel s e = aces-valid s e
 kind-valid AcesToHalf s e = aces-valid s e
 kind-valid HalfToAces s e = aces-valid s e
+kind-valid GradedToPixel s e = aces-valid s e
+kind-valid GradedToScene s e = aces-valid s e
 
 pub from-large : (k : Kind) → settingBytes ≤ conversionOf k .from
 from-large PixelToScene = lit≤ tt
@@ -31,6 +33,8 @@ from-large PixelToAces = lit≤ tt
 from-large AcesToPixel = lit≤ tt
 from-large AcesToHalf = lit≤ tt
 from-large HalfToAces = lit≤ tt
+from-large GradedToPixel = lit≤ tt
+from-large GradedToScene = lit≤ tt
 
 pub kind-long : (k : Kind) (r : List ℕ) → length (conversionOf k .bytes r) ≡ conversionOf k .to
 kind-long PixelToScene r = length-record numberBytes (settingOf r) _
@@ -39,3 +43,5 @@ kind-long PixelToAces r = length-record numberBytes (settingOf r) _
 kind-long AcesToPixel r = length-record codeBytes (settingOf r) _
 kind-long AcesToHalf r = length-record halfBytes (settingOf r) _
 kind-long HalfToAces r = length-record numberBytes (settingOf r) _
+kind-long GradedToPixel r = length-record codeBytes (settingOf r) _
+kind-long GradedToScene r = length-record numberBytes (settingOf r) _

@@ -1,24 +1,19 @@
--- Numbers in the bytes of a record: those of records are small enough, and the scene number of a code fits and is read back.
+-- The scene number of a code in the bytes of a record: it fits, and is read back.
 -- Assumes nothing.
 use mathlib.Core.Path.{_≡_}
 use Prim.Native.Nat.{ℕ, _*_, _^_, _≤_, _<_}
 use native.Mathlib.Nat.{le-trans}
-use native.Mathlib.Omega.{arith}
 use lib.Dec.{lit≤}
-use lib.IntN.{ℤ, natAbs}
 use Rattle.whole.specs.Parts.{up, dn}
-use Rattle.whole.proofs.Reflect.{abs-is}
 use Rattle.rules.specs.declared.Check.the-variants.{Passed}
 use Rattle.rules.specs.declared.Setting.{Setting}
 use Rattle.rules.specs.Setting.{codeCheck, Valid}
 use Rattle.rules.specs.Record.{ofBits, numberBytes}
 use Rattle.rules.proofs.Records.{of-to, bits-fit}
+use Rattle.rules.proofs.Written.{small-fits}
 use Rattle.decode.specs.Decoded.{decoded}
 use Rattle.decode.proofs.Distance.{decoded-small}
 use Rattle.record_conversion.specs.Conversions.{sceneBits}
-
-pub small-fits : (x : ℤ) → natAbs x ≤ 2 ^ 38 → (2 * up x < 256 ^ numberBytes) × (2 * dn x ≤ 256 ^ numberBytes)
-small-fits x h = (omega (arith, abs-is x), omega (arith, abs-is x))
 
 module _ (s : Setting) (v : Valid s) (n : ℕ) (e : codeCheck s n ≡ Passed) where
   below : (2 * up (decoded s n) < 256 ^ numberBytes) × (2 * dn (decoded s n) ≤ 256 ^ numberBytes)

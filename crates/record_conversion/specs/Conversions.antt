@@ -1,4 +1,4 @@
--- The conversions of the rules, with the decoded numbers put in.
+-- The conversions of the rules, with the decoded numbers and the scene triples of graded numbers put in.
 -- Assumes nothing.
 use mathlib.Core.List.{List}
 use Prim.Native.Nat.{ℕ}
@@ -8,8 +8,9 @@ use Rattle.rules.specs.declared.Setting.{Setting}
 use Rattle.rules.specs.Conversions as rules
 use Rattle.rules.specs.Strip.{Conversion}
 use Rattle.decode.specs.Decoded.{decoded}
+use Rattle.aces_inverse.specs.Inverse.{candidates}
 use Rattle.record_conversion.specs.declared.Kind.{Kind}
-use Rattle.record_conversion.specs.declared.Kind.the-variants.{PixelToScene, SceneToPixel, PixelToAces, AcesToPixel, AcesToHalf, HalfToAces}
+use Rattle.record_conversion.specs.declared.Kind.the-variants.{PixelToScene, SceneToPixel, PixelToAces, AcesToPixel, AcesToHalf, HalfToAces, GradedToPixel, GradedToScene}
 
 abbrev pub sceneBits : Setting → ℕ → ℕ
 sceneBits = rules.sceneBits decoded
@@ -29,6 +30,12 @@ pixelToAces = rules.pixelToAces decoded
 abbrev pub acesToPixel : Conversion
 acesToPixel = rules.acesToPixel decoded
 
+abbrev pub gradedToPixel : Conversion
+gradedToPixel = rules.gradedToPixel candidates decoded
+
+abbrev pub gradedToScene : Conversion
+gradedToScene = rules.gradedToScene candidates
+
 -- the conversion that a value names
 abbrev pub conversionOf : Kind → Conversion
 conversionOf PixelToScene = pixelToScene
@@ -37,6 +44,8 @@ conversionOf PixelToAces = pixelToAces
 conversionOf AcesToPixel = acesToPixel
 conversionOf AcesToHalf = rules.acesToHalf
 conversionOf HalfToAces = rules.halfToAces
+conversionOf GradedToPixel = gradedToPixel
+conversionOf GradedToScene = gradedToScene
 
 -- the stretch of a record after its check: what is written for it where it passes, else what stood there
 abbrev pub stretchAfter : Check → (bytes out : List ℕ) → List ℕ

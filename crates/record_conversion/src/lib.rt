@@ -23,6 +23,8 @@ pub enum Kind {
     SceneToPixel,
     AcesToHalf,
     HalfToAces,
+    GradedToPixel,
+    GradedToScene,
 }
 
 // The bytes of a record, and of what is written for one.
@@ -36,6 +38,8 @@ pub fn size_from(k: Kind) -> usize
         Kind::SceneToPixel => NUMBERS_SIZE,
         Kind::AcesToHalf => NUMBERS_SIZE,
         Kind::HalfToAces => HALVES_SIZE,
+        Kind::GradedToPixel => NUMBERS_SIZE,
+        Kind::GradedToScene => NUMBERS_SIZE,
     }
 }
 
@@ -49,6 +53,8 @@ pub fn size_to(k: Kind) -> usize
         Kind::SceneToPixel => PIXEL_SIZE,
         Kind::AcesToHalf => HALVES_SIZE,
         Kind::HalfToAces => NUMBERS_SIZE,
+        Kind::GradedToPixel => PIXEL_SIZE,
+        Kind::GradedToScene => NUMBERS_SIZE,
     }
 }
 
@@ -63,6 +69,8 @@ pub fn check_setting(k: Kind, s: Setting) -> Check
         Kind::SceneToPixel => setting::check_setting(s),
         Kind::AcesToHalf => setting::check_for_aces(s),
         Kind::HalfToAces => setting::check_for_aces(s),
+        Kind::GradedToPixel => setting::check_for_aces(s),
+        Kind::GradedToScene => setting::check_for_aces(s),
     }
 }
 
@@ -79,6 +87,8 @@ pub fn check_inner(k: Kind, s: Setting, d: Decoder, t: &[u64; 128], r: &[u8]) ->
         Kind::SceneToPixel => scene_record::check_numbers(s, r),
         Kind::AcesToHalf => Check::Passed,
         Kind::HalfToAces => half_record::check_halves(r),
+        Kind::GradedToPixel => graded_record::check_graded(r),
+        Kind::GradedToScene => graded_record::check_graded(r),
     }
 }
 
@@ -96,6 +106,8 @@ pub fn write_record(k: Kind, s: Setting, d: Decoder, t: &[u64; 128], r: &[u8], o
         Kind::SceneToPixel => scene_record::write_pixel(s, d, t, r, out),
         Kind::AcesToHalf => half_record::write_halves(s, r, out),
         Kind::HalfToAces => half_record::write_units(s, r, out),
+        Kind::GradedToPixel => graded_record::write_pixel(s, d, t, r, out),
+        Kind::GradedToScene => graded_record::write_scene(s, r, out),
     }
 }
 

@@ -1,9 +1,9 @@
 // Records in their bytes: a setting and three channels, read and written.
 ghost use mathlib.Core.Path.{_≡_};
 ghost use mathlib.Core.List.{[], _∷_};
-ghost use Prim.Native.Nat.{_+_, _*_, _≤_, _<_};
+ghost use Prim.Native.Nat.{_+_, _*_, _≤_};
 ghost use lib.ListN.{length};
-ghost use Rattle.rules.specs.Record.{bytesOf, settingOf, toBits, recordOf, pixelIn, pixelRecord, tripleIn, acesRecord, settingBytes, numberBytes, codeBytes, halfBytes, pixelSize, numbersSize, halvesSize};
+ghost use Rattle.rules.specs.Record.{bytesOf, settingOf, recordOf, pixelIn, pixelRecord, numbersRecord, tripleIn, acesRecord, settingBytes, codeBytes, halfBytes, pixelSize, numbersSize, halvesSize};
 ghost use Rattle.rules.specs.Strip.{recordAt};
 use little_endian::CODE_BYTES;
 use little_endian::HALF_BYTES;
@@ -124,7 +124,7 @@ pub fn put_halves(out: &mut [u8], s: Setting, red: Half, green: Half, blue: Half
 // A record with three signed numbers, whatever they stand for.
 fn put_numbers(out: &mut [u8], s: Setting, red: i64, green: i64, blue: i64)
     requires { ⌜ length (now out) ≡ numbersSize ⌝ }
-    ensures { λ _. ⌜ now (out .exit) ≡ recordOf numberBytes s (record { red = toBits numberBytes red; green = toBits numberBytes green; blue = toBits numberBytes blue }) ⌝ }
+    ensures { λ _. ⌜ now (out .exit) ≡ numbersRecord s red green blue ⌝ }
 {
     put_setting(&mut out[0..SETTING_BYTES], s);
     little_endian::put_number(&mut out[SETTING_BYTES..GREEN_NUMBER], red);
@@ -135,7 +135,7 @@ fn put_numbers(out: &mut [u8], s: Setting, red: i64, green: i64, blue: i64)
 // A scene record.
 pub fn put_scene(out: &mut [u8], s: Setting, red: Scene, green: Scene, blue: Scene)
     requires { ⌜ length (now out) ≡ numbersSize ⌝ }
-    ensures { λ _. ⌜ now (out .exit) ≡ recordOf numberBytes s (record { red = toBits numberBytes (red .0); green = toBits numberBytes (green .0); blue = toBits numberBytes (blue .0) }) ⌝ }
+    ensures { λ _. ⌜ now (out .exit) ≡ numbersRecord s (red .0) (green .0) (blue .0) ⌝ }
 {
     put_numbers(out, s, red.0, green.0, blue.0);
 }

@@ -2,7 +2,7 @@
 // and gives the answer as a number and a place; one over a float pixel gives the number, and writes where it is 0. include/ropeinstant.h
 // declares them.
 ghost use mathlib.Core.Path.{_≡_};
-ghost use Rattle.record_conversion.specs.Conversions.{pixelToScene, sceneToPixel, pixelToAces, acesToPixel};
+ghost use Rattle.record_conversion.specs.Conversions.{pixelToScene, sceneToPixel, pixelToAces, acesToPixel, gradedToPixel, gradedToScene};
 ghost use Rattle.rules.specs.Conversions.{acesToHalf, halfToAces};
 ghost use Rattle.rules.specs.Result.{stripResult};
 ghost use Rattle.rules.specs.Setting.{topOf};
@@ -86,6 +86,24 @@ pub extern "C" fn ropeinstant_half_to_aces(input: &[u8], output: &mut [u8], at: 
     ensures { λ _. ⌜ LentBytes (now (input .entry)) (now (output .entry)) (now (output .exit)) ⌝ }
 {
     give(strip::half_to_aces(input, output), at)
+}
+
+// The graded road: a strip of graded ACES records to one of pixel records.
+#[no_mangle]
+pub extern "C" fn ropeinstant_graded_to_pixel(input: &[u8], output: &mut [u8], at: &mut u64) -> u32
+    ensures { λ n. ⌜ Gives gradedToPixel (now (input .entry)) (now (output .entry)) n (now (at .exit)) (now (output .exit)) ⌝ }
+    ensures { λ _. ⌜ LentBytes (now (input .entry)) (now (output .entry)) (now (output .exit)) ⌝ }
+{
+    give(strip::graded_to_pixel(input, output), at)
+}
+
+// The same to one of scene records.
+#[no_mangle]
+pub extern "C" fn ropeinstant_graded_to_scene(input: &[u8], output: &mut [u8], at: &mut u64) -> u32
+    ensures { λ n. ⌜ Gives gradedToScene (now (input .entry)) (now (output .entry)) n (now (at .exit)) (now (output .exit)) ⌝ }
+    ensures { λ _. ⌜ LentBytes (now (input .entry)) (now (output .entry)) (now (output .exit)) ⌝ }
+{
+    give(strip::graded_to_scene(input, output), at)
 }
 
 // Decoding one pixel to floats.

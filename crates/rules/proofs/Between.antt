@@ -1,40 +1,58 @@
--- Whole numbers from minus a limit to the limit, as a test of two ends says it; and so the check of a scene number.
+-- Numbers from minus a limit to the limit, and so the check of a scene number.
 -- Assumes nothing.
 use mathlib.Core.Bool.{Bool, true, false}
 use mathlib.Core.Path.{_≡_, refl, sym, subst}
-use Prim.Native.Nat.{ℕ, suc, _-_, _^_, _≤_}
+use Prim.Native.Nat.{ℕ, zero, suc, _^_, _≤_}
 use native.Mathlib.Omega.{arith}
 use lib.Dec.{T}
-use lib.IntN.{ℤ, pos, negsuc, natAbs}
+use lib.IntN.{ℤ, pos, natAbs}
 use lib.Signed.{leZ}
+use Rattle.whole.specs.Parts.{minus, up, dn}
 use Rattle.whole.proofs.Reflect.{at, abs-is, one-zero, leN-of, leZ-of}
 use Rattle.rules.specs.declared.Check.the-variants.{Passed}
-use Rattle.rules.specs.Choice.{choose}
+use Rattle.rules.specs.declared.Refusal.{Refusal}
+use Rattle.rules.specs.declared.Refusal.the-variants.{SceneOutOfRange}
+use Rattle.rules.specs.Choice.{choose, between}
 use Rattle.rules.specs.Encoding.{sceneCheck}
-
-abbrev pub between : ℕ → ℤ → Bool
-between k x = choose (leZ (negsuc k) x) (leZ x (pos (suc k))) false
+use Rattle.rules.specs.Refusal.{refuseUnless}
+use Rattle.rules.proofs.Settings.{passed-only}
 
 yes : (b : Bool) → T b → b ≡ true
 yes true t = refl
 yes false t = absurd t
 
-pub small-between : (k : ℕ) (x : ℤ) → natAbs x ≤ suc k → between k x ≡ true
-small-between k x h =
-    let low = yes (leZ (negsuc k) x) (leZ-of (at (negsuc k)) (at x) (omega (arith, abs-is x)) .le) in
-    let high = yes (leZ x (pos (suc k))) (leZ-of (at x) (at (pos (suc k))) (omega (arith, abs-is x)) .le) in
-    rw (low, high)
+-- minus the limit
+below : (limit : ℕ) → (up (minus limit) ≡ 0) × (dn (minus limit) ≡ limit)
+below zero = (refl, refl)
+below (suc k) = (refl, refl)
 
-pub between-small : (k : ℕ) (x : ℤ) → between k x ≡ true → natAbs x ≤ suc k
-between-small k x e = go (leZ (negsuc k) x) (leZ x (pos (suc k))) refl refl e
-  where
-    go : (b c : Bool) → leZ (negsuc k) x ≡ b → leZ x (pos (suc k)) ≡ c → choose b c false ≡ true → natAbs x ≤ suc k
-    go true true f g e =
-        omega (arith, abs-is x, one-zero x, leN-of (at (negsuc k)) (at x) (record { le = subst T (sym f) tt }), leN-of (at x) (at (pos (suc k))) (record { le = subst T (sym g) tt }))
-    go true false f g e = absurd (subst T (sym e) tt)
-    go false c f g e = absurd (subst T (sym e) tt)
+module _ (limit : ℕ) (x : ℤ) where
+  pub small-between : natAbs x ≤ limit → between limit x ≡ true
+  small-between h =
+      let m = below limit in
+      let low = yes (leZ (minus limit) x) (leZ-of (at (minus limit)) (at x) (omega (arith, abs-is x, m .0, m .1)) .le) in
+      let high = yes (leZ x (pos limit)) (leZ-of (at x) (at (pos limit)) (omega (arith, abs-is x)) .le) in
+      rw (low, high)
+
+  pub between-small : between limit x ≡ true → natAbs x ≤ limit
+  between-small e = go (leZ (minus limit) x) (leZ x (pos limit)) refl refl e
+    where
+      go : (b c : Bool) → leZ (minus limit) x ≡ b → leZ x (pos limit) ≡ c → choose b c false ≡ true → natAbs x ≤ limit
+      go true true f g e =
+          let m = below limit in
+          omega (arith, m .0, m .1, abs-is x, one-zero x, leN-of (at (minus limit)) (at x) (record { le = subst T (sym f) tt }), leN-of (at x) (at (pos limit)) (record { le = subst T (sym g) tt }))
+      go true false f g e = absurd (subst T (sym e) tt)
+      go false c f g e = absurd (subst T (sym e) tt)
+
+-- what a check by a test lets pass
+pub test-passed : (b : Bool) (why : Refusal) → refuseUnless b why ≡ Passed → b ≡ true
+test-passed b why e = yes b (passed-only b why e)
 
 -- a number that may be encoded
 pub scene-passes : (x : ℤ) → natAbs x ≤ 2 ^ 40 → sceneCheck x ≡ Passed
 unfolding sceneCheck
-scene-passes x h = let e : between (2 ^ 40 - 1) x ≡ true = small-between (2 ^ 40 - 1) x h in rw e
+scene-passes x h = rw (small-between (2 ^ 40) x h)
+
+pub scene-small : (x : ℤ) → sceneCheck x ≡ Passed → natAbs x ≤ 2 ^ 40
+unfolding sceneCheck
+scene-small x e = between-small (2 ^ 40) x (test-passed (between (2 ^ 40) x) SceneOutOfRange e)

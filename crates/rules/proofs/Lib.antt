@@ -1,6 +1,7 @@
 pub mod Values
 pub mod Nearest
 pub mod Settings
+pub mod Never
 pub mod NoMatrix
 pub mod Bounds
 pub mod TopCode
@@ -8,9 +9,11 @@ pub mod Codes
 pub mod NotDivisible
 pub mod Recorder
 pub mod Records
+pub mod Written
 pub mod Channels
 pub mod Closest
 pub mod Search
 pub mod Results
 pub mod Between
+pub mod Graded
 pub mod HalfExamples

@@ -1,90 +1,66 @@
 -- 02, item 3, REFUSAL 12: a setting is refused by it exactly where it is valid and its curve is 2, and only in a conversion to or from ACES.
 -- Assumes nothing.
-use mathlib.Core.Bool.{Bool, true, false}
+use mathlib.Core.Bool.{Bool, false}
 use mathlib.Core.List.{List, [], _∷_}
 use mathlib.Core.Logic.{_↔_}
 use mathlib.Core.Path.{_≡_, refl, ap, _∙_, subst}
-use Prim.Native.Nat.{ℕ, suc, _-_, _*_, _/_, _%_, _^_}
+use Prim.Native.Nat.{ℕ, _%_, _^_, _<_}
 use native.Mathlib.Omega.{arith}
-use lib.Dec.{T, eqb, leb}
+use lib.Dec.{T, eqb, leb, lit<}
 use lib.Ieee.{Float}
-use lib.IntN.{ℤ, pos, negsuc}
-use lib.Signed.{leZ}
-use lib.ListN.{length}
-use Rattle.rules.specs.declared.Answer.{Answer}
-use Rattle.rules.specs.declared.Answer as answer
+use lib.IntN.{ℤ, pos}
 use Rattle.rules.specs.declared.Check.{Check}
 use Rattle.rules.specs.declared.Check.the-variants.{Passed, Refused}
 use Rattle.rules.specs.declared.CurveName.{CurveName}
 use Rattle.rules.specs.declared.CurveName.the-variants.{LogC2, LogC3, LogC4, Unknown}
 use Rattle.rules.specs.declared.Pixel.{Pixel}
 use Rattle.rules.specs.declared.Refusal.{Refusal}
-use Rattle.rules.specs.declared.Refusal.the-variants.{PartialRecord, ShortOutput, UnknownCurve, UnknownWidth, UnknownEi, CodeAboveTop, CodeBelowFirst, CodeNotDivisible, SceneOutOfRange, FloatNotFinite, FloatOutOfRange, NoMatrix}
+use Rattle.rules.specs.declared.Refusal.the-variants.{CodeAboveTop, CodeBelowFirst, CodeNotDivisible, SceneOutOfRange, FloatNotFinite, FloatOutOfRange, NoMatrix}
+use Rattle.rules.specs.declared.Scenes.{Scenes}
 use Rattle.rules.specs.declared.Setting.{Setting}
 use Rattle.rules.specs.declared.Triple.{Triple}
 use Rattle.rules.specs.Pixels.{pixel, triple, codesCheck}
-use Rattle.rules.specs.Choice.{choose, member}
-use Rattle.rules.specs.Refusal.{numberOf, numberOfCheck, then, refuseUnless}
-use Rattle.rules.specs.Result.{single, stripResult}
-use Rattle.rules.specs.Setting.{named, known, widthsOf, eisOf, hasMatrix, codesOf, lastOf, codeAt, settingCheck, acesCheck, codeCheck, Valid}
+use Rattle.rules.specs.Choice.{between}
+use Rattle.rules.specs.Refusal.{numberOfCheck, then, refuseUnless}
+use Rattle.rules.specs.Result.{single}
+use Rattle.rules.specs.Setting.{named, hasMatrix, codesOf, lastOf, codeAt, settingCheck, acesCheck, codeCheck, Valid}
 use Rattle.rules.specs.Matrix.{noMatrix, matrixFor}
 use Rattle.rules.specs.Encoding.{codeBy, sceneCheck}
 use Rattle.rules.specs.Float.{finite, inRange, valueOf, floatOf, floatCheck, unitsOf}
 use Rattle.rules.specs.Record.{value, digits, bytesOf, settingOf, recordOf, channelAt, ofBits, codeBytes, numberBytes, halfBytes, pixelRecord, acesRecord}
-use Rattle.rules.specs.Strip.{Conversion, recordCheck, records, orNext, scan, scanOf, answerOf, resultOf}
-use Rattle.rules.specs.Conversions.{channelChecks, channelwise, numberCheck, sceneBits, codeBits, pixelToScene, sceneToPixel, pixelToAces, acesToPixel, acesToHalf, halfToAces}
-use Rattle.rules.specs.Calls.{floatsCheck, decodeBy, encodeBy, decodeFloatsBy, encodeFloatsBy, wayBackBy}
+use Rattle.rules.specs.Strip.{recordCheck, resultOf}
+use Rattle.rules.specs.Conversions.{channelChecks, channelwise, numberCheck, sceneBits, codeBits, pixelToScene, sceneToPixel, pixelToAces, acesToPixel, acesToHalf, halfToAces, gradedToScene, gradedToPixel}
+use Rattle.rules.specs.Calls.{floatsCheck, decodeBy, encodeBy, decodeFloatsBy, encodeFloatsBy, wayBackBy, gradedBy}
 use Rattle.rules.proofs.Settings.{has-name, valid-named}
+use Rattle.rules.proofs.Never.{Never, Other, passed-never, unless, after, after-three, setting-never, single-never, strip-never}
 
 -- ---- checks that do not answer 12
-abbrev NotTwelve : ℕ → Type 0
-NotTwelve n = n ≡ 12 → ⊥
+later : 5 < 12
+later = lit< tt
 
 abbrev OtherCheck : Check → Type 0
-OtherCheck x = NotTwelve (numberOfCheck x)
-
-never-passed : OtherCheck Passed
-never-passed e = omega arith
-
-unless : (x : Bool) (why : Refusal) → NotTwelve (numberOf why) → OtherCheck (refuseUnless x why)
-unless true why h = never-passed
-unless false why h = h
-
-after : (x y : Check) → OtherCheck x → OtherCheck y → OtherCheck (then x y)
-after Passed y h g = g
-after (Refused why) y h g = h
-
-after-three : (x y z : Check) → OtherCheck x → OtherCheck y → OtherCheck z → OtherCheck (then x (then y z))
-after-three x y z h g f = after x (then y z) h (after y z g f)
-
-setting-never : (s : Setting) → OtherCheck (settingCheck s)
-unfolding settingCheck
-setting-never s = go (known (named (s .curve))) (member (s .width) (widthsOf (named (s .curve)))) (member (s .ei) (eisOf (named (s .curve))))
-  where
-    go : (x y z : Bool) → OtherCheck (then (refuseUnless x UnknownCurve) (then (refuseUnless y UnknownWidth) (refuseUnless z UnknownEi)))
-    go x y z =
-        after-three (refuseUnless x UnknownCurve) (refuseUnless y UnknownWidth) (refuseUnless z UnknownEi) (unless x UnknownCurve (λ e. omega arith)) (unless y UnknownWidth (λ e. omega arith)) (unless z UnknownEi (λ e. omega arith))
+OtherCheck = Never 12
 
 code-never : (s : Setting) (n : ℕ) → OtherCheck (codeCheck s n)
 code-never s n = go (eqb (n % codesOf s .apart) 0) (leb (codesOf s .first) n) (leb n (codeAt s (lastOf s)))
   where
     go : (x y z : Bool) → OtherCheck (then (refuseUnless x CodeNotDivisible) (then (refuseUnless y CodeBelowFirst) (refuseUnless z CodeAboveTop)))
     go x y z =
-        after-three (refuseUnless x CodeNotDivisible) (refuseUnless y CodeBelowFirst) (refuseUnless z CodeAboveTop) (unless x CodeNotDivisible (λ e. omega arith)) (unless y CodeBelowFirst (λ e. omega arith)) (unless z CodeAboveTop (λ e. omega arith))
+        after-three 12 later (refuseUnless x CodeNotDivisible) (refuseUnless y CodeBelowFirst) (refuseUnless z CodeAboveTop) (unless 12 later x CodeNotDivisible (λ e. omega arith)) (unless 12 later y CodeBelowFirst (λ e. omega arith)) (unless 12 later z CodeAboveTop (λ e. omega arith))
 
 scene-never : (x : ℤ) → OtherCheck (sceneCheck x)
 unfolding sceneCheck
-scene-never x = go (choose (leZ (negsuc (2 ^ 40 - 1)) x) (leZ x (pos (2 ^ 40))) false)
+scene-never x = go (between (2 ^ 40) x)
   where
     go : (y : Bool) → OtherCheck (refuseUnless y SceneOutOfRange)
-    go y = unless y SceneOutOfRange (λ e. omega arith)
+    go y = unless 12 later y SceneOutOfRange (λ e. omega arith)
 
 float-never : (x : Float) → OtherCheck (floatCheck x)
 unfolding floatCheck
 float-never x = go (finite x) (inRange (valueOf x))
   where
     go : (y z : Bool) → OtherCheck (then (refuseUnless y FloatNotFinite) (refuseUnless z FloatOutOfRange))
-    go y z = after (refuseUnless y FloatNotFinite) (refuseUnless z FloatOutOfRange) (unless y FloatNotFinite (λ e. omega arith)) (unless z FloatOutOfRange (λ e. omega arith))
+    go y z = after 12 later (refuseUnless y FloatNotFinite) (refuseUnless z FloatOutOfRange) (unless 12 later y FloatNotFinite (λ e. omega arith)) (unless 12 later z FloatOutOfRange (λ e. omega arith))
 
 -- ---- 12 EXACTLY: a setting is refused by it where it passes 3, 4 and 5, and its curve is 2
 pub twelve-exactly : (s : Setting) → (numberOfCheck (acesCheck s) ≡ 12) ↔ (Valid s × (s .curve ≡ 2))
@@ -93,8 +69,8 @@ twelve-exactly s = (forth, back)
   where
     is-two : Valid s → (c : CurveName) → named (s .curve) ≡ c → numberOfCheck (refuseUnless (hasMatrix c) NoMatrix) ≡ 12 → s .curve ≡ 2
     is-two v LogC2 e n = has-name (s .curve) e
-    is-two v LogC3 e n = absurd (never-passed n)
-    is-two v LogC4 e n = absurd (never-passed n)
+    is-two v LogC3 e n = absurd (passed-never 12 later n)
+    is-two v LogC4 e n = absurd (passed-never 12 later n)
     is-two v Unknown e n = valid-named s v e
 
     forth : numberOfCheck (acesCheck s) ≡ 12 → Valid s × (s .curve ≡ 2)
@@ -102,7 +78,7 @@ twelve-exactly s = (forth, back)
       where
         go : (x : Check) → settingCheck s ≡ x → numberOfCheck (then x (refuseUnless (hasMatrix (named (s .curve))) NoMatrix)) ≡ 12 → Valid s × (s .curve ≡ 2)
         go Passed e n = (e, is-two e (named (s .curve)) refl n)
-        go (Refused why) e n = absurd (setting-never s (ap numberOfCheck e ∙ n))
+        go (Refused why) e n = absurd (setting-never 12 later s (ap numberOfCheck e ∙ n))
 
     back : Valid s × (s .curve ≡ 2) → numberOfCheck (acesCheck s) ≡ 12
     back h = rw (h .0, h .1)
@@ -181,6 +157,13 @@ module _ (number : Setting → ℕ → ℤ) (s : Setting) (v : Valid s) (two : s
   pub read-half-refused : (r : List ℕ) → settingOf r ≡ s → recordCheck halfToAces r ≡ Refused NoMatrix
   read-half-refused r e = rw (e, no-matrix)
 
+  pub graded-refused : (scenesFor : Setting → Triple → Scenes) (r : List ℕ) → settingOf r ≡ s
+      → (recordCheck (gradedToScene scenesFor) r ≡ Refused NoMatrix) × (recordCheck (gradedToPixel scenesFor number) r ≡ Refused NoMatrix)
+  graded-refused scenesFor r e = (rw (e, no-matrix), rw (e, no-matrix))
+
+  pub graded-call-refused : (scenesFor : Setting → Triple → Scenes) (a : Triple) → gradedBy scenesFor s a .number ≡ 12
+  graded-call-refused scenesFor a = rw no-matrix
+
   pub way-back-refused : (a : Triple) → wayBackBy number s a .number ≡ 12
   way-back-refused a = rw no-matrix
 
@@ -192,14 +175,10 @@ none-for LogC4 e = absurd (subst T e tt)
 none-for Unknown e = refl
 
 -- ---- IN DECODING AND ENCODING 12 never occurs: of one code, one number, one float pixel
-single-never : {A : Type 0} (x : Check) (values : List A) → OtherCheck x → NotTwelve (single x values .number)
-single-never Passed values h = never-passed
-single-never (Refused why) values h = h
-
 module _ (number : Setting → ℕ → ℤ) (s : Setting) where
   -- a call that checks its setting and then x
-  call-never : {A : Type 0} (x : Check) (values : List A) → OtherCheck x → NotTwelve (single (then (settingCheck s) x) values .number)
-  call-never x values h = single-never (then (settingCheck s) x) values (after (settingCheck s) x (setting-never s) h)
+  call-never : {A : Type 0} (x : Check) (values : List A) → OtherCheck x → Other 12 (single (then (settingCheck s) x) values .number)
+  call-never x values h = single-never 12 later (then (settingCheck s) x) values (after 12 later (settingCheck s) x (setting-never 12 later s) h)
 
   pub decode-never-twelve : (n : ℕ) → decodeBy number s n .number ≡ 12 → ⊥
   decode-never-twelve n = call-never (codeCheck s n) (number s n ∷ []) (code-never s n)
@@ -210,44 +189,24 @@ module _ (number : Setting → ℕ → ℤ) (s : Setting) where
   pub decode-floats-never-twelve : (p : Pixel) → decodeFloatsBy number s p .number ≡ 12 → ⊥
   decode-floats-never-twelve p =
       call-never (codesCheck s p) (floatOf (number s (p .red .0)) ∷ floatOf (number s (p .green .0)) ∷ floatOf (number s (p .blue .0)) ∷ [])
-      (after-three (codeCheck s (p .red .0)) (codeCheck s (p .green .0)) (codeCheck s (p .blue .0)) (code-never s (p .red .0)) (code-never s (p .green .0)) (code-never s (p .blue .0)))
+      (after-three 12 later (codeCheck s (p .red .0)) (codeCheck s (p .green .0)) (codeCheck s (p .blue .0)) (code-never s (p .red .0)) (code-never s (p .green .0)) (code-never s (p .blue .0)))
 
   pub encode-floats-never-twelve : (x y z : Float) → encodeFloatsBy number s x y z .number ≡ 12 → ⊥
   encode-floats-never-twelve x y z =
       call-never (floatsCheck x y z) (codeBy number s (unitsOf x) ∷ codeBy number s (unitsOf y) ∷ codeBy number s (unitsOf z) ∷ [])
-      (after-three (floatCheck x) (floatCheck y) (floatCheck z) (float-never x) (float-never y) (float-never z))
+      (after-three 12 later (floatCheck x) (floatCheck y) (floatCheck z) (float-never x) (float-never y) (float-never z))
 
 -- ---- and of strips
-next-never : (x : Check) (k : ℕ) (next : Answer) → OtherCheck x → NotTwelve (stripResult next .number) → NotTwelve (stripResult (orNext x k next) .number)
-next-never Passed k next h g = g
-next-never (Refused why) k next h g = h
-
-module _ (c : Conversion) (never : (r : List ℕ) → OtherCheck (recordCheck c r)) where
-  scan-never : (k : ℕ) (rs : List (List ℕ)) → NotTwelve (stripResult (scan (recordCheck c) k rs) .number)
-  unfolding scan
-  scan-never k [] = never-passed
-  scan-never k (r ∷ rs) = next-never (recordCheck c r) k (scan (recordCheck c) (suc k) rs) (never r) (scan-never (suc k) rs)
-
-  strip-never : (input output : List ℕ) → resultOf c input output .number ≡ 12 → ⊥
-  unfolding answerOf
-  strip-never input output =
-      go (eqb (length input % c .from) 0) (leb (length input / c .from * c .to) (length output)) (scanOf c (length input / c .from) input) (scan-never 0 (records (c .from) (length input / c .from) input))
-    where
-      go : (x y : Bool) (a : Answer) → NotTwelve (stripResult a .number) → NotTwelve (stripResult (choose x (choose y a (answer.Answer.Refused ShortOutput 0)) (answer.Answer.Refused PartialRecord 0)) .number)
-      go true true a h = h
-      go true false a h = λ e. omega arith
-      go false y a h = λ e. omega arith
-
 channels-never : (a : ℕ) (check : ℕ → Check) → ((u : ℕ) → OtherCheck (check u)) → (r : List ℕ) → OtherCheck (channelChecks a check r)
 unfolding channelChecks
 channels-never a check h r =
-    after-three (check (channelAt a r 0)) (check (channelAt a r 1)) (check (channelAt a r 2)) (h (channelAt a r 0)) (h (channelAt a r 1)) (h (channelAt a r 2))
+    after-three 12 later (check (channelAt a r 0)) (check (channelAt a r 1)) (check (channelAt a r 2)) (h (channelAt a r 0)) (h (channelAt a r 1)) (h (channelAt a r 2))
 
 -- a conversion channel by channel that checks the setting by 3, 4 and 5
 channelwise-never : (a b : ℕ) (check : Setting → ℕ → Check) (one : Setting → ℕ → ℕ) → ((s : Setting) (u : ℕ) → OtherCheck (check s u)) → (input output : List ℕ) → resultOf (channelwise settingCheck a b check one) input output .number ≡ 12 → ⊥
 channelwise-never a b check one h =
-    strip-never (channelwise settingCheck a b check one)
-    (λ r. after (settingCheck (settingOf r)) (channelChecks a (check (settingOf r)) r) (setting-never (settingOf r)) (channels-never a (check (settingOf r)) (h (settingOf r)) r))
+    strip-never 12 later (channelwise settingCheck a b check one)
+    (λ r. after 12 later (settingCheck (settingOf r)) (channelChecks a (check (settingOf r)) r) (setting-never 12 later (settingOf r)) (channels-never a (check (settingOf r)) (h (settingOf r)) r))
 
 pub pixel-to-scene-never-twelve : (number : Setting → ℕ → ℤ) (input output : List ℕ) → resultOf (pixelToScene number) input output .number ≡ 12 → ⊥
 pixel-to-scene-never-twelve number = channelwise-never codeBytes numberBytes codeCheck (sceneBits number) code-never

@@ -1,7 +1,7 @@
 -- What a result's number says: 0 exactly where nothing was refused.
 -- Assumes nothing.
 use mathlib.Core.List.{List, [], _∷_}
-use mathlib.Core.Path.{_≡_, refl, ap, sym, subst}
+use mathlib.Core.Path.{_≡_, refl, ap, sym}
 use Prim.Native.Nat.{ℕ, _<_}
 use native.Mathlib.Omega.{arith}
 use lib.Dec.{lit<}
@@ -12,7 +12,7 @@ use Rattle.rules.specs.declared.Answer.the-variants.{Done}
 use Rattle.rules.specs.declared.Check.{Check}
 use Rattle.rules.specs.declared.Check.the-variants.{Passed, Refused}
 use Rattle.rules.specs.declared.Refusal.{Refusal}
-use Rattle.rules.specs.declared.Refusal.the-variants.{PartialRecord, ShortOutput, UnknownCurve, UnknownWidth, UnknownEi, CodeAboveTop, SceneOutOfRange, FloatNotFinite, FloatOutOfRange, NoPixel, CodeBelowFirst, NoMatrix, CodeNotDivisible}
+use Rattle.rules.specs.declared.Refusal.the-variants.{PartialRecord, ShortOutput, UnknownCurve, UnknownWidth, UnknownEi, CodeAboveTop, SceneOutOfRange, FloatNotFinite, FloatOutOfRange, NoPixel, CodeBelowFirst, NoMatrix, CodeNotDivisible, GradedOutOfRange}
 use Rattle.rules.specs.Refusal.{numberOf}
 use Rattle.rules.specs.Result.{Result, done, refusedBy, single, stripResult, Each}
 
@@ -31,6 +31,7 @@ number-bounds NoPixel = (lit< tt, lit< tt)
 number-bounds CodeBelowFirst = (lit< tt, lit< tt)
 number-bounds NoMatrix = (lit< tt, lit< tt)
 number-bounds CodeNotDivisible = (lit< tt, lit< tt)
+number-bounds GradedOutOfRange = (lit< tt, lit< tt)
 
 -- a result with the number 0 is of checks that pass
 pub zero-passed : {A : Type 0} (x : Check) (values : List A) → single x values .number ≡ 0 → x ≡ Passed

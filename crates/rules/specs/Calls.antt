@@ -1,5 +1,5 @@
--- 01, "Refused, by the place of the check" and "Float pixels and the lister": what the calls on one code, number, pixel or record give: values,
--- or the refusal of the first check that fails. The numbers of the codes are a parameter.
+-- 01, "Refused, by the place of the check" and "Float pixels and the lister", and 02, item 7: what the calls on one code, number, pixel or record
+-- give: values, or the refusal of the first check that fails. The numbers of the codes are a parameter, and so is the scene triple of graded numbers.
 -- Assumes nothing.
 use mathlib.Core.List.{List, [], _∷_}
 use mathlib.Core.Path.{_≡_}
@@ -9,6 +9,7 @@ use lib.IntN.{ℤ}
 use Rattle.rules.specs.declared.Check.{Check}
 use Rattle.rules.specs.declared.Setting.{Setting}
 use Rattle.rules.specs.declared.Pixel.{Pixel}
+use Rattle.rules.specs.declared.Scenes.{Scenes}
 use Rattle.rules.specs.declared.Triple.{Triple}
 use Rattle.rules.specs.Refusal.{then}
 use Rattle.rules.specs.Result.{Result, single}
@@ -18,6 +19,7 @@ use Rattle.rules.specs.Encoding.{IsNearest, TwoThirds, numberAt, codeBy,
 use Rattle.rules.specs.Float.{floatOf, floatCheck, unitsOf, IsFloat}
 use Rattle.rules.specs.Pixels.{codesCheck}
 use Rattle.rules.specs.WayBack.{pixelBy, codesFound, foundCheck}
+use Rattle.rules.specs.Graded.{gradedChecks, GradedWithin, sceneNumbers}
 
 -- "red, green and blue (each channel's checks before the next channel)", of floats
 abbrev pub floatsCheck : (x y z : Float) → Check
@@ -58,3 +60,12 @@ module _ (number : Setting → ℕ → ℤ) (s : Setting) where
   abbrev pub encodeFloatsBy : (x y z : Float) → Result ℕ
   encodeFloatsBy x y z =
       single (then (settingCheck s) (floatsCheck x y z)) (codeBy number s (unitsOf x) ∷ codeBy number s (unitsOf y) ∷ codeBy number s (unitsOf z) ∷ [])
+
+-- 02, item 7: "a call on one record gives the triple", where a setting and a graded triple have this one: 3, 4, 5, 12, then 14
+abbrev pub gradedBy : (scenesFor : Setting → Triple → Scenes) → Setting → Triple → Result ℤ
+gradedBy scenesFor s a = single (then (acesCheck s) (gradedChecks a)) (sceneNumbers (scenesFor s a))
+
+-- the numbers that are given are a triple that can be encoded, and whose ACES triple is at most e units from the given one in each channel
+pub data GivesGraded (e : ℕ) (s : Setting) (a : Triple) : List ℤ → Type 0 where
+  three : (x : Scenes) → GradedWithin e s a x → GivesGraded e s a (sceneNumbers x)
+  none : GivesGraded e s a []

@@ -1,6 +1,7 @@
 -- 01, "Records and settings": "The strip conversions are pixel to scene (decoding), scene to pixel (encoding), pixel to ACES, and ACES to pixel
--- (the way back).", and 02, item 6: "strip conversions from ACES records" to half records "and back": what each checks of a record's setting, what it
--- checks of the record after it, and what it writes. The numbers of the codes are a parameter.
+-- (the way back).", 02, item 6: "strip conversions from ACES records" to half records "and back", and item 7: "the strip conversion" of graded
+-- numbers: what each checks of a record's setting, what it checks of the record after it, and what it writes. The numbers of the codes are a
+-- parameter, and so is the scene triple of graded numbers.
 -- Assumes nothing.
 use mathlib.Core.List.{List}
 use Prim.Native.Nat.{ℕ}
@@ -9,15 +10,18 @@ use Rattle.rules.specs.declared.Check.{Check}
 use Rattle.rules.specs.declared.Check.the-variants.{Passed}
 use Rattle.rules.specs.declared.Setting.{Setting}
 use Rattle.rules.specs.declared.Pixel.{Pixel}
+use Rattle.rules.specs.declared.Scenes.{Scenes}
+use Rattle.rules.specs.declared.Triple.{Triple}
 use Rattle.rules.specs.declared.Found.{Found}
 use Rattle.rules.specs.declared.Found as found
 use Rattle.rules.specs.Refusal.{then}
 use Rattle.rules.specs.Setting.{settingCheck, acesCheck, codeCheck}
 use Rattle.rules.specs.Encoding.{codeBy, sceneCheck}
 use Rattle.rules.specs.Pixels.{pixel, acesBy}
-use Rattle.rules.specs.Record.{toBits, ofBits, sizeOf, codeBytes, numberBytes, halfBytes, settingOf, channelAt, recordOf, pixelIn, pixelRecord, tripleIn, acesRecord}
+use Rattle.rules.specs.Record.{toBits, ofBits, sizeOf, codeBytes, numberBytes, halfBytes, settingOf, channelAt, recordOf, pixelIn, pixelRecord, sceneRecord, tripleIn, acesRecord}
 use Rattle.rules.specs.Half.{halfOf, halfUnits, halfCheck}
 use Rattle.rules.specs.WayBack.{pixelBy, foundCheck}
+use Rattle.rules.specs.Graded.{gradedChecks, pixelNearest}
 use Rattle.rules.specs.Strip.{Conversion}
 
 -- "red, green and blue (each channel's checks before the next channel)", of channels of a bytes
@@ -104,4 +108,28 @@ module _ (number : Setting → ℕ → ℤ) where
         setting = acesCheck;
         inner = λ r. foundCheck (pixelBy number (settingOf r) (tripleIn r));
         bytes = λ r. pixelRecord (settingOf r) (pixelFound (pixelBy number (settingOf r) (tripleIn r)));
+      }
+
+-- ---- 02, item 7, where a setting and a graded triple have this scene triple
+module _ (scenesFor : Setting → Triple → Scenes) where
+  -- graded to scene: "give a scene triple"
+  abbrev pub gradedToScene : Conversion
+  gradedToScene =
+      record {
+        from = sizeOf numberBytes;
+        to = sizeOf numberBytes;
+        setting = acesCheck;
+        inner = λ r. gradedChecks (tripleIn r);
+        bytes = λ r. sceneRecord (settingOf r) (scenesFor (settingOf r) (tripleIn r));
+      }
+
+  -- graded to pixel: "then encode that triple: .. the strip conversion" gives "the pixel records"
+  abbrev pub gradedToPixel : (number : Setting → ℕ → ℤ) → Conversion
+  gradedToPixel number =
+      record {
+        from = sizeOf numberBytes;
+        to = sizeOf codeBytes;
+        setting = acesCheck;
+        inner = λ r. gradedChecks (tripleIn r);
+        bytes = λ r. pixelRecord (settingOf r) (pixelNearest number (settingOf r) (scenesFor (settingOf r) (tripleIn r)));
       }

@@ -1,13 +1,11 @@
 -- 01, "Encoding": the code of a scene number.
 -- Assumes nothing.
-use mathlib.Core.Bool.{false}
 use Prim.Native.Nat.{ℕ, zero, suc, _+_, _-_, _*_, _^_, _≤_, _<_}
 use lib.Dec.{ltb}
-use lib.IntN.{ℤ, pos, negsuc, natAbs, _-ℤ_}
-use lib.Signed.{leZ}
+use lib.IntN.{ℤ, natAbs, _-ℤ_}
 use Rattle.rules.specs.declared.Check.{Check}
 use Rattle.rules.specs.declared.Refusal.the-variants.{SceneOutOfRange}
-use Rattle.rules.specs.Choice.{choose}
+use Rattle.rules.specs.Choice.{choose, between}
 use Rattle.rules.specs.Fraction.{ratio, integer, _*ℚ_, AtMost, AtLeast}
 use Rattle.rules.specs.declared.Setting.{Setting}
 use Rattle.rules.specs.Setting.{lastOf, codeAt}
@@ -50,4 +48,4 @@ pub record TwoThirds (k : Scale) (x : ℤ) (i : ℕ) : Type 0 where
 
 -- refusal 7: "scene number to encode outside -2^40 to 2^40"
 unfoldable pub sceneCheck : ℤ → Check
-sceneCheck x = refuseUnless (choose (leZ (negsuc (2 ^ 40 - 1)) x) (leZ x (pos (2 ^ 40))) false) SceneOutOfRange
+sceneCheck x = refuseUnless (between (2 ^ 40) x) SceneOutOfRange

@@ -26,6 +26,8 @@ pub mod ExactRow
 pub mod Pixels
 -- the pixel that gives three ACES numbers
 pub mod WayBack
+-- graded ACES numbers: their check, and what is asked of their scene numbers
+pub mod Graded
 -- records as bytes, and what they hold
 pub mod Record
 -- halves: the value of one, reading, writing, the nearest

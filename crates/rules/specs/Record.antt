@@ -7,6 +7,7 @@ use lib.IntN.{ℤ, pos, negsuc}
 use lib.ListN.{getD, take, drop}
 use Rattle.rules.specs.declared.Setting.{Setting}
 use Rattle.rules.specs.declared.Pixel.{Pixel}
+use Rattle.rules.specs.declared.Scenes.{Scenes}
 use Rattle.rules.specs.declared.Triple.{Triple}
 use Rattle.rules.specs.Choice.{choose}
 use Rattle.rules.specs.Pixels.{pixel, triple}
@@ -101,9 +102,17 @@ pixelIn r = pixel (channelAt codeBytes r 0) (channelAt codeBytes r 1) (channelAt
 abbrev pub pixelRecord : Setting → Pixel → List ℕ
 pixelRecord s p = recordOf codeBytes s (record { red = p .red .0; green = p .green .0; blue = p .blue .0 })
 
--- the three numbers of an ACES record, and the record of three numbers
+-- the record of three signed numbers
+abbrev pub numbersRecord : Setting → (x y z : ℤ) → List ℕ
+numbersRecord s x y z = recordOf numberBytes s (record { red = toBits numberBytes x; green = toBits numberBytes y; blue = toBits numberBytes z })
+
+-- the scene record of three scene numbers
+abbrev pub sceneRecord : Setting → Scenes → List ℕ
+sceneRecord s x = numbersRecord s (x .red .0) (x .green .0) (x .blue .0)
+
+-- the three numbers of an ACES record, and the record of three ACES numbers
 abbrev pub tripleIn : List ℕ → Triple
 tripleIn r = triple (ofBits numberBytes (channelAt numberBytes r 0)) (ofBits numberBytes (channelAt numberBytes r 1)) (ofBits numberBytes (channelAt numberBytes r 2))
 
 abbrev pub acesRecord : Setting → Triple → List ℕ
-acesRecord s a = recordOf numberBytes s (record { red = toBits numberBytes (a .red .0); green = toBits numberBytes (a .green .0); blue = toBits numberBytes (a .blue .0) })
+acesRecord s a = numbersRecord s (a .red .0) (a .green .0) (a .blue .0)

@@ -4,7 +4,7 @@ use mathlib.Core.Bool.{Bool}
 use Prim.Native.Nat.{ℕ}
 use Rattle.rules.specs.Choice.{choose}
 use Rattle.rules.specs.declared.Refusal.{Refusal}
-use Rattle.rules.specs.declared.Refusal.the-variants.{PartialRecord, ShortOutput, UnknownCurve, UnknownWidth, UnknownEi, CodeAboveTop, SceneOutOfRange, FloatNotFinite, FloatOutOfRange, NoPixel, CodeBelowFirst, NoMatrix, CodeNotDivisible}
+use Rattle.rules.specs.declared.Refusal.the-variants.{PartialRecord, ShortOutput, UnknownCurve, UnknownWidth, UnknownEi, CodeAboveTop, SceneOutOfRange, FloatNotFinite, FloatOutOfRange, NoPixel, CodeBelowFirst, NoMatrix, CodeNotDivisible, GradedOutOfRange}
 use Rattle.rules.specs.declared.Check.{Check}
 use Rattle.rules.specs.declared.Check.the-variants.{Passed, Refused}
 
@@ -35,6 +35,8 @@ numberOf CodeBelowFirst = 11
 numberOf NoMatrix = 12
 -- 02, item 5: "a curve 4 width 16 code not divisible by 16, checked first in the channel"
 numberOf CodeNotDivisible = 13
+-- 02, item 7: "a graded ACES number outside those limits, checked in the channel"
+numberOf GradedOutOfRange = 14
 
 -- the second check's answer where the first passes
 abbrev pub then : Check → Check → Check

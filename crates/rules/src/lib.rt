@@ -44,6 +44,13 @@ pub struct Triple {
     pub blue: Aces,
 }
 
+// Three scene numbers.
+pub struct Scenes {
+    pub red: Scene,
+    pub green: Scene,
+    pub blue: Scene,
+}
+
 // What the way back finds.
 pub enum Found {
     Pixel(Pixel),
@@ -71,6 +78,7 @@ pub enum Refusal {
     CodeBelowFirst,
     NoMatrix,
     CodeNotDivisible,
+    GradedOutOfRange,
 }
 
 // What a check answers.

@@ -32,6 +32,7 @@ pub fn refusal_number(r: Refusal) -> u8
         Refusal::CodeBelowFirst => 11,
         Refusal::NoMatrix => 12,
         Refusal::CodeNotDivisible => 13,
+        Refusal::GradedOutOfRange => 14,
     }
 }
 

@@ -1,5 +1,5 @@
--- Two conversions of which the second takes what the first writes back, record by record, to what `f` makes of the record: then it takes what
--- the first writes of a strip back so. Where that is the record itself, the strip comes back, and two strips that the first writes alike are one.
+-- Two conversions of which the second takes what the first writes, record by record, to what `f` makes of the record: then it takes what the
+-- first writes of a strip to that. Where that is the record itself, the strip comes back, and two strips that the first writes alike are one.
 -- Assumes nothing.
 use mathlib.Core.Path.{_≡_, refl, ap, sym, _∙_}
 use mathlib.Core.Bool.{Bool, true, false}
@@ -93,11 +93,14 @@ module _ (c : Conversion) (input output : List ℕ) (n : ℕ) where
 pub whole-strip : (size n : ℕ) (s : List ℕ) → length s ≡ n * size → written (λ r. r) (records size n s) ≡ s
 whole-strip size n s e = rw (written-records size n s, ← e, take-length)
 
--- ---- a second conversion takes back what the first does, record by record
+-- ---- a second conversion of what the first writes
 
--- a conversion d of what c writes to records as c reads them
+-- a conversion d of what c writes, to records of so many bytes; and to records as c reads them
+abbrev pub next : (c d : Conversion) (to : ℕ) → Conversion
+next c d to = record { from = c .to; to = to; setting = d .setting; inner = d .inner; bytes = d .bytes }
+
 abbrev pub reverse : (c d : Conversion) → Conversion
-reverse c d = record { from = c .to; to = c .from; setting = d .setting; inner = d .inner; bytes = d .bytes }
+reverse c d = next c d (c .from)
 
 -- what a conversion writes of a strip
 abbrev pub image : Conversion → List ℕ → ℕ → List ℕ
@@ -110,8 +113,8 @@ unfolding outputAfter
 image-is c long input output n = take-at (image c input n) _ (n * c .to) (length-written (c .bytes) (c .to) long (c .from) n input)
 
 module _ (c : Conversion) (long : (r : List ℕ) → length (c .bytes r) ≡ c .to) (d : Conversion) (f : List ℕ → List ℕ)
-    (back : (r : List ℕ) → Good c r → (recordCheck (reverse c d) (c .bytes r) ≡ check.Check.Passed) × (d .bytes (c .bytes r) ≡ f r)) where
-  scan-back : (rs : List (List ℕ)) (k : ℕ) → AllGood c rs → Done (k + length rs) ≡ scan (recordCheck (reverse c d)) k (map (c .bytes) rs)
+    (back : (r : List ℕ) → Good c r → (recordCheck d (c .bytes r) ≡ check.Check.Passed) × (d .bytes (c .bytes r) ≡ f r)) where
+  scan-back : (rs : List (List ℕ)) (k : ℕ) → AllGood c rs → Done (k + length rs) ≡ scan (recordCheck d) k (map (c .bytes) rs)
   unfolding scan
   scan-back [] k g = rw add-zero
   scan-back (r ∷ rs) k g = rw (back r (g .0) .0, add-suc, ← suc-add) (scan-back rs (suc k) (g .1))
@@ -128,36 +131,52 @@ module _ (c : Conversion) (long : (r : List ℕ) → length (c .bytes r) ≡ c .
     again : records (c .to) n (image c input n) ≡ map (c .bytes) (records (c .from) n input)
     again = ap (λ (l : List ℕ). records (c .to) n l) (sym (append-nil (image c input n))) ∙ records-written (c .bytes) (c .to) long (c .from) n input []
 
-    -- the second conversion accepts it whole, where it has room for the first's input
-    pub back-whole : (other : List ℕ) → length input ≤ length other → Whole (reverse c d) (image c input n) other n
-    back-whole other room =
+    -- the second conversion accepts it whole, where it has room
+    pub next-whole : (to : ℕ) (other : List ℕ) → n * to ≤ length other → Whole (next c d to) (image c input n) other n
+    next-whole to other room =
         record {
           long = length-written (c .bytes) (c .to) long (c .from) n input;
-          room = omega (arith, w .long);
+          room = room;
           passes =
               let e : n ≡ 0 + length (records (c .from) n input) = omega (arith, length-records (c .from) n input) in
               ap Done e
               ∙ scan-back (records (c .from) n input) 0 good
-              ∙ ap (λ (l : List (List ℕ)). scan (recordCheck (reverse c d)) 0 l) (sym again);
+              ∙ ap (λ (l : List (List ℕ)). scan (recordCheck d) 0 l) (sym again);
         }
 
     -- and writes what f makes of the first's input
-    pub back-written : (other : List ℕ) → outputAfter (reverse c d) (image c input n) other (Done n) ≡ written f (records (c .from) n input) ++ drop (length input) other
+    pub next-written : (to : ℕ) (other : List ℕ) → outputAfter (next c d to) (image c input n) other (Done n) ≡ written f (records (c .from) n input) ++ drop (n * to) other
     unfolding outputAfter
-    back-written other = rw (again, written-back _ good, ← w .long)
+    next-written to other = rw (again, written-back _ good)
+
+    -- where it has room for the first's input
+    pub back-whole : (other : List ℕ) → length input ≤ length other → Whole (reverse c d) (image c input n) other n
+    back-whole other room = next-whole (c .from) other (omega (arith, w .long))
+
+    pub back-written : (other : List ℕ) → outputAfter (reverse c d) (image c input n) other (Done n) ≡ written f (records (c .from) n input) ++ drop (length input) other
+    back-written other = next-written (c .from) other ∙ ap (λ (k : ℕ). written f (records (c .from) n input) ++ drop k other) (sym (w .long))
 
   -- THE TWO CONVERSIONS, one after the other
+  pub one-after-other : 0 < c .to → (to : ℕ) (input output other : List ℕ) (n : ℕ) → IsBytes input → Done n ≡ answerOf c input output → n * to ≤ length other
+      → (Done n ≡ answerOf (next c d to) (take (n * c .to) (outputAfter c input output (Done n))) other)
+      × (outputAfter (next c d to) (take (n * c .to) (outputAfter c input output (Done n))) other (Done n) ≡ written f (records (c .from) n input) ++ drop (n * to) other)
+  one-after-other p to input output other n h e room =
+      let w = done-whole c input output n e in
+      rw (image-is c long input output n)
+      (whole-done (next c d to) (image c input n) other n p (next-whole input output n h w to other room), next-written input output n h w to other)
+
+  -- there and back
   pub round-trip-to : 0 < c .to → (input output other : List ℕ) (n : ℕ) → IsBytes input → Done n ≡ answerOf c input output → length input ≤ length other
       → (Done n ≡ answerOf (reverse c d) (take (n * c .to) (outputAfter c input output (Done n))) other)
       × (outputAfter (reverse c d) (take (n * c .to) (outputAfter c input output (Done n))) other (Done n) ≡ written f (records (c .from) n input) ++ drop (length input) other)
   round-trip-to p input output other n h e room =
       let w = done-whole c input output n e in
-      rw (image-is c long input output n)
-      (whole-done (reverse c d) (image c input n) other n p (back-whole input output n h w other room), back-written input output n h w other)
+      let t = one-after-other p (c .from) input output other n h e (omega (arith, w .long)) in
+      (t .0, t .1 ∙ ap (λ (k : ℕ). written f (records (c .from) n input) ++ drop k other) (sym (w .long)))
 
 -- ---- to the record itself
 module _ (c : Conversion) (long : (r : List ℕ) → length (c .bytes r) ≡ c .to) (d : Conversion)
-    (back : (r : List ℕ) → Good c r → (recordCheck (reverse c d) (c .bytes r) ≡ check.Check.Passed) × (d .bytes (c .bytes r) ≡ r)) where
+    (back : (r : List ℕ) → Good c r → (recordCheck d (c .bytes r) ≡ check.Check.Passed) × (d .bytes (c .bytes r) ≡ r)) where
   -- and writes the first's input
   pub itself-written : (input output other : List ℕ) (n : ℕ) → IsBytes input → Whole c input output n
       → outputAfter (reverse c d) (image c input n) other (Done n) ≡ input ++ drop (length input) other

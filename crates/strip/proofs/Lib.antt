@@ -3,4 +3,5 @@ pub mod Contract
 pub mod Join
 pub mod Back
 pub mod ChannelsBack
+pub mod Same
 pub mod Theorems

@@ -3,7 +3,7 @@
 ghost use mathlib.Core.Path.{_≡_};
 ghost use Rattle.rules.specs.Conversions.{acesToHalf, halfToAces};
 ghost use Rattle.rules.specs.Strip.{Converts};
-ghost use Rattle.record_conversion.specs.Conversions.{pixelToScene, sceneToPixel, pixelToAces, acesToPixel, conversionOf};
+ghost use Rattle.record_conversion.specs.Conversions.{pixelToScene, sceneToPixel, pixelToAces, acesToPixel, gradedToPixel, gradedToScene, conversionOf};
 ghost use Rattle.strip.specs.Lent.{LentBytes};
 ghost use Rattle.strip.specs.Writable.{writable};
 use record_conversion::Kind;
@@ -97,4 +97,20 @@ pub fn half_to_aces(input: &[u8], output: &mut [u8]) -> Answer
     ensures { λ _. ⌜ LentBytes (now (input .entry)) (now (output .entry)) (now (output .exit)) ⌝ }
 {
     convert(Kind::HalfToAces, input, output)
+}
+
+// The graded road: a strip of graded ACES records to one of pixel records, with the codes nearest to what graded_to_scene gives.
+pub fn graded_to_pixel(input: &[u8], output: &mut [u8]) -> Answer
+    ensures { λ a. ⌜ Converts gradedToPixel (now (input .entry)) (now (output .entry)) a (now (output .exit)) ⌝ }
+    ensures { λ _. ⌜ LentBytes (now (input .entry)) (now (output .entry)) (now (output .exit)) ⌝ }
+{
+    convert(Kind::GradedToPixel, input, output)
+}
+
+// The same to one of scene records, whose ACES numbers are near those of the input.
+pub fn graded_to_scene(input: &[u8], output: &mut [u8]) -> Answer
+    ensures { λ a. ⌜ Converts gradedToScene (now (input .entry)) (now (output .entry)) a (now (output .exit)) ⌝ }
+    ensures { λ _. ⌜ LentBytes (now (input .entry)) (now (output .entry)) (now (output .exit)) ⌝ }
+{
+    convert(Kind::GradedToScene, input, output)
 }

@@ -5,7 +5,7 @@ use Rattle.rules.specs.declared.Check.the-variants.{Passed}
 use Rattle.rules.specs.declared.Setting.{Setting}
 use Rattle.rules.specs.Setting.{settingCheck, acesCheck, Valid}
 use Rattle.record_conversion.specs.declared.Kind.{Kind}
-use Rattle.record_conversion.specs.declared.Kind.the-variants.{PixelToScene, SceneToPixel, PixelToAces, AcesToPixel, AcesToHalf, HalfToAces}
+use Rattle.record_conversion.specs.declared.Kind.the-variants.{PixelToScene, SceneToPixel, PixelToAces, AcesToPixel, AcesToHalf, HalfToAces, GradedToPixel, GradedToScene}
 use Rattle.record_conversion.specs.Conversions.{conversionOf}
 
 abbrev pub first : Setting
@@ -23,3 +23,5 @@ first-passes PixelToAces = refl
 first-passes AcesToPixel = refl
 first-passes AcesToHalf = refl
 first-passes HalfToAces = refl
+first-passes GradedToPixel = refl
+first-passes GradedToScene = refl

@@ -25,13 +25,13 @@ use Rattle.decode.specs.Gap.{gapOf}
 use Rattle.decode.proofs.Distance.{decodes-near, decodes-small}
 use Rattle.decode.proofs.Theorems.{decoding}
 use Rattle.encode.proofs.Theorems.{encoded-passes, encode-near}
-use Rattle.aces_inverse.specs.Reach.{Small3, InReach}
+use Rattle.aces_inverse.specs.Reach.{InReach}
 use Rattle.aces_inverse.specs.Farthest.{farthest}
 use Rattle.aces_inverse.specs.Inverse.{candidate}
 use Rattle.aces_inverse.proofs.Inverse.{near-aces-small, candidate-near}
 use Rattle.way_back.specs.Candidate.{codeFor, candidatePixel, allInReach}
 use Rattle.way_back.proofs.Reach.{given-reached, reached-given}
-use Rattle.rules.specs.Pixels.{IsPixel}
+use Rattle.rules.specs.Pixels.{IsPixel, Small3}
 use Rattle.aces.specs.OfPixel.{pixelAces}
 
 -- a distance e at which numbers still tell the pixel: the inverse leads to within 2 e + 1 units of the number of a code, which is as far from

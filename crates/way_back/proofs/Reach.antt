@@ -2,31 +2,30 @@
 -- Assumes nothing.
 use mathlib.Core.Bool.{Bool, true, false}
 use mathlib.Core.Path.{_≡_, refl, sym, subst}
-use Prim.Native.Nat.{_-_, _^_}
 use lib.Dec.{T}
 use Rattle.rules.specs.declared.Triple.{Triple}
-use Rattle.rules.specs.Choice.{choose}
-use Rattle.rules.proofs.Between.{between, small-between, between-small}
-use Rattle.aces_inverse.specs.Reach.{InReach}
+use Rattle.rules.specs.Choice.{choose, between}
+use Rattle.rules.proofs.Between.{small-between, between-small}
+use Rattle.aces_inverse.specs.Reach.{reach, InReach}
 use Rattle.way_back.specs.Candidate.{inReach, allInReach}
 
 -- numbers that a pixel may have
 pub given-reached : (a : Triple) → InReach (a .red .0) (a .green .0) (a .blue .0) → allInReach a ≡ true
 unfolding allInReach inReach
 given-reached a g =
-    let r : between (2 ^ 38 - 1) (a .red .0) ≡ true = small-between (2 ^ 38 - 1) (a .red .0) (g .red) in
-    let e : between (2 ^ 38 - 1) (a .green .0) ≡ true = small-between (2 ^ 38 - 1) (a .green .0) (g .green) in
-    let b : between (2 ^ 38 - 1) (a .blue .0) ≡ true = small-between (2 ^ 38 - 1) (a .blue .0) (g .blue) in
+    let r : between reach (a .red .0) ≡ true = small-between reach (a .red .0) (g .red) in
+    let e : between reach (a .green .0) ≡ true = small-between reach (a .green .0) (g .green) in
+    let b : between reach (a .blue .0) ≡ true = small-between reach (a .blue .0) (g .blue) in
     rw (r, e, b)
 
 pub reached-given : (a : Triple) → allInReach a ≡ true → InReach (a .red .0) (a .green .0) (a .blue .0)
 unfolding allInReach inReach
-reached-given a e = go (between (2 ^ 38 - 1) (a .red .0)) (between (2 ^ 38 - 1) (a .green .0)) (between (2 ^ 38 - 1) (a .blue .0)) refl refl refl e
+reached-given a e = go (between reach (a .red .0)) (between reach (a .green .0)) (between reach (a .blue .0)) refl refl refl e
   where
-    go : (r g b : Bool) → between (2 ^ 38 - 1) (a .red .0) ≡ r → between (2 ^ 38 - 1) (a .green .0) ≡ g → between (2 ^ 38 - 1) (a .blue .0) ≡ b
+    go : (r g b : Bool) → between reach (a .red .0) ≡ r → between reach (a .green .0) ≡ g → between reach (a .blue .0) ≡ b
         → choose r (choose g b false) false ≡ true → InReach (a .red .0) (a .green .0) (a .blue .0)
     go true true true p q r e =
-        record { red = between-small (2 ^ 38 - 1) (a .red .0) p; green = between-small (2 ^ 38 - 1) (a .green .0) q; blue = between-small (2 ^ 38 - 1) (a .blue .0) r }
+        record { red = between-small reach (a .red .0) p; green = between-small reach (a .green .0) q; blue = between-small reach (a .blue .0) r }
     go true true false p q r e = absurd (subst T (sym e) tt)
     go true false b p q r e = absurd (subst T (sym e) tt)
     go false g b p q r e = absurd (subst T (sym e) tt)

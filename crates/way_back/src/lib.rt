@@ -73,7 +73,7 @@ fn candidate(s: Setting, d: Decoder, t: &[u64; 128], a: Triple) -> Pixel
     requires { ⌜ InReach (a .red .0) (a .green .0) (a .blue .0) ⌝ }
     ensures { λ p. ⌜ p ≡ candidatePixel s a ⌝ }
 {
-    let x = aces_inverse::candidate(s, a);
+    let x = aces_inverse::candidate(s, a.red, a.green, a.blue);
     encode::pixel_of(s, d, t, x.red, x.green, x.blue)
 }
 

@@ -1,21 +1,17 @@
--- The division of an integer by a natural that rounds down, by its two bounds and by its remainder; and what a word's division is.
+-- The division of an integer by a natural that rounds down, by its two bounds and by its remainder.
 -- Assumes nothing.
-use mathlib.Core.Path.{_≡_, refl, ap, _∙_, sym, subst}
-use mathlib.Core.Bool.{true, false}
+use mathlib.Core.Path.{_≡_, ap, _∙_}
 use Prim.Native.Nat.{ℕ, suc, _+_, _-_, _*_, _/_, _%_, _<_, _≤_}
 use native.Mathlib.Nat.{div-add-mod', mod-lt}
 use native.Mathlib.Omega.{arith}
 use lib.Arith.{digits-div}
-use lib.Dec.{T, ltb→lt}
 use lib.IntN.{ℤ, pos, negsuc, subℕ, _+ℤ_, _*ℤ_}
-use lib.Signed.{mag-shr, ltZ, shrZ, quotZ, _<ℤ_}
+use lib.Signed.{mag-shr, shrZ}
 use mir.Syntax.{w64}
-use mir.Val.{SFits, ofZ}
+use mir.Val.{SFits}
 use mir.ValLaws.{sfits-le}
-use borrow.Author.Tests.{ltb-true}
 use Rattle.whole.specs.Parts.{up, dn}
 use Rattle.whole.proofs.Reflect.{at, add, mul, eqZ, eqN, sub-dif}
-use Rattle.whole.proofs.Words.{notZ}
 
 -- the quotient is the number that leaves a remainder below m
 pub floor-is : (q : ℤ) (m r : ℕ) → r < m → shrZ (q *ℤ pos m +ℤ pos r) m ≡ q
@@ -61,20 +57,6 @@ half-bounds p m o h y e =
     let r = modZ-lt d (2 * o) (omega arith) in
     (omega (arith, sub-dif (2 * p + o) (2 * m)), omega (arith, sub-dif (2 * p + o) (2 * m)))
 
--- ---- words: what `/` asks and is at a divisor above 0
-pub above-zero : (m : ℤ) → pos 0 <ℤ m → 0 < ofZ w64 m
-above-zero (pos n) h = ltb→lt 0 n (h .lt)
-above-zero (negsuc n) h = absurd (h .lt)
-
+-- ---- of a word it is a word
 pub floor-fits : (z : ℤ) (m : ℕ) → SFits w64 z → SFits w64 (shrZ z m)
 floor-fits z m f = sfits-le (mag-shr z m) f
-
-pub quotient-below : (x m : ℤ) → ltZ x (pos 0) ≡ true → pos 0 <ℤ m → quotZ (notZ x) m ≡ notZ (shrZ x (up m))
-quotient-below (pos a) m e h = absurd (omega (arith, ltb-true a 0 e))
-quotient-below (negsuc a) (pos b) e h = refl
-quotient-below (negsuc a) (negsuc b) e h = absurd (h .lt)
-
-pub quotient-above : (x m : ℤ) → ltZ x (pos 0) ≡ false → pos 0 <ℤ m → quotZ x m ≡ shrZ x (up m)
-quotient-above (pos a) (pos b) e h = refl
-quotient-above (pos a) (negsuc b) e h = absurd (h .lt)
-quotient-above (negsuc a) m e h = absurd (subst T e tt)

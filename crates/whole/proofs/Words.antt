@@ -1,7 +1,7 @@
 -- Signed words: when an expression over integers fits one, and what is read back of its bits.
 -- Assumes nothing.
-use mathlib.Core.Path.{_≡_, refl, ap, _∙_}
-use Prim.Native.Nat.{ℕ, suc, _+_, _*_, _<_, _≤_}
+use mathlib.Core.Path.{_≡_, ap, _∙_}
+use Prim.Native.Nat.{ℕ, _+_, _<_, _≤_}
 use native.Mathlib.Omega.{arith}
 use mir.Syntax.{w64}
 use mir.Val.{SFits, toZ, ofZ}
@@ -42,7 +42,3 @@ not-is (negsuc a) = eqZ (sub (at (negsuc 0)) (at (negsuc a))) (at (pos a)) (omeg
 pub not-fits : (z : ℤ) → SFits w64 z → SFits w64 (notZ z)
 not-fits (pos a) f = record { sfits = f .sfits }
 not-fits (negsuc a) f = record { sfits = f .sfits }
-
-pub not-not : (z : ℤ) → notZ (notZ z) ≡ z
-not-not (pos a) = refl
-not-not (negsuc a) = refl

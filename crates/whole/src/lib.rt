@@ -2,8 +2,8 @@
 // or below 0, and a quotient rounded down. (proofs/ has the laws of ℤ that the other crates cite.)
 ghost use mathlib.Core.Path.{_≡_};
 ghost use Prim.Native.Nat.{_*_, _/_, _^_, _≤_};
-ghost use lib.IntN.{pos, natAbs};
-ghost use lib.Signed.{_<ℤ_, shrZ};
+ghost use lib.IntN.{natAbs};
+ghost use lib.Signed.{shrZ};
 ghost use Rattle.whole.specs.Parts.{up, dn};
 
 // Words are cut into two digits to this base.
@@ -41,14 +41,6 @@ pub fn below_zero(z: i64) -> u64
     ensures { λ r. ⌜ r ≡ dn z ⌝ }
 {
     if z < 0 { magnitude(z) } else { 0 }
-}
-
-// x over m, rounded down.
-pub fn floor_div(x: i64, m: i64) -> i64
-    requires { ⌜ pos 0 <ℤ m ⌝ }
-    ensures { λ r. ⌜ r ≡ shrZ x (up m) ⌝ }
-{
-    if x < 0 { -1 - (-1 - x) / m } else { x / m }
 }
 
 // x over 10^6, rounded down. With 2 * 10^18 added there is no sign to look at.

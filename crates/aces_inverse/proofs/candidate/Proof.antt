@@ -8,6 +8,7 @@ use lib.IntN.{ℤ}
 use Rattle.whole.proofs.Words.{read-back}
 use Rattle.rules.specs.Fraction.{integer, whole, _/ℚ_, nearest}
 use Rattle.rules.specs.Matrix.{acesNumber}
+use Rattle.rules.specs.Pixels.{scenes}
 use Rattle.row_product.specs.Row.{Number, Sum, SmallRows}
 use Rattle.row_product.proofs.Sizes.{Read, read-products, number-fits}
 use Rattle.aces_inverse.specs.Inverse.{lowRows, highRows}
@@ -17,13 +18,13 @@ use Rattle.aces_inverse.proofs.candidate.Tie as tie
 
 -- the numbers
 module _ (s : tie.Start) where
-  red-number : Number (s .args .a .red .0)
+  red-number : Number (s .args .red .0)
   red-number = record { small = omega (arith, s .pre .1 .red) }
 
-  green-number : Number (s .args .a .green .0)
+  green-number : Number (s .args .green .0)
   green-number = record { small = omega (arith, s .pre .1 .green) }
 
-  blue-number : Number (s .args .a .blue .0)
+  blue-number : Number (s .args .blue .0)
   blue-number = record { small = omega (arith, s .pre .1 .blue) }
 
 products-requires : tie.Need-products-requires
@@ -41,14 +42,14 @@ module _ (c : tie.After-products2) where
   abbrev s : tie.Start
   s = c .before .before .before .before .before .before .before
 
-  low : let a = c .before .before .before .before .before .before .before .args in let r = c .before .before .products .result in Read (lowRows (a .s)) (a .a .red .0) (a .a .green .0) (a .a .blue .0) (r .red) (r .green) (r .blue)
+  low : let a = c .before .before .before .before .before .before .before .args in let r = c .before .before .products .result in Read (lowRows (a .s)) (a .red .0) (a .green .0) (a .blue .0) (r .red) (r .green) (r .blue)
   low =
-      read-products (lowRows (s .args .s)) (s .args .a .red .0) (s .args .a .green .0) (s .args .a .blue .0) (low-small (s .args .s) (s .pre .0)) (red-number s) (green-number s) (blue-number s)
+      read-products (lowRows (s .args .s)) (s .args .red .0) (s .args .green .0) (s .args .blue .0) (low-small (s .args .s) (s .pre .0)) (red-number s) (green-number s) (blue-number s)
       (rw (read-back (number-fits (red-number s)), read-back (number-fits (green-number s)), read-back (number-fits (blue-number s)), c .before .before .before .low-of .ensures) at (c .before .before .products .ensures))
 
-  high : let a = c .before .before .before .before .before .before .before .args in let r = c .products2 .result in Read (highRows (a .s)) (a .a .red .0) (a .a .green .0) (a .a .blue .0) (r .red) (r .green) (r .blue)
+  high : let a = c .before .before .before .before .before .before .before .args in let r = c .products2 .result in Read (highRows (a .s)) (a .red .0) (a .green .0) (a .blue .0) (r .red) (r .green) (r .blue)
   high =
-      read-products (highRows (s .args .s)) (s .args .a .red .0) (s .args .a .green .0) (s .args .a .blue .0) (high-small (s .args .s) (s .pre .0)) (red-number s) (green-number s) (blue-number s)
+      read-products (highRows (s .args .s)) (s .args .red .0) (s .args .green .0) (s .args .blue .0) (high-small (s .args .s) (s .pre .0)) (red-number s) (green-number s) (blue-number s)
       (rw (read-back (number-fits (red-number s)), read-back (number-fits (green-number s)), read-back (number-fits (blue-number s)), c .before .high-of .ensures) at (c .products2 .ensures))
 
 over-binary-requires : tie.Need-over-binary-requires
@@ -71,11 +72,10 @@ returns c =
     let k = r .before .before .before in
     let start = k .before .before .before .before .before .before .before in
     let a = start .args in
-    record {
-      red-is = read-back (record { sfits = r .over-binary .ok }) ∙ (rw (low k .red, high k .red) at (r .over-binary .ensures)) ∙ ap over (pair-is (a .s) (start .pre .0) 0 (lit< tt) (a .a .red .0) (a .a .green .0) (a .a .blue .0));
-      green-is = read-back (record { sfits = g .over-binary2 .ok }) ∙ (rw (low k .green, high k .green) at (g .over-binary2 .ensures)) ∙ ap over (pair-is (a .s) (start .pre .0) 1 (lit< tt) (a .a .red .0) (a .a .green .0) (a .a .blue .0));
-      blue-is = read-back (record { sfits = c .over-binary3 .ok }) ∙ (rw (low k .blue, high k .blue) at (c .over-binary3 .ensures)) ∙ ap over (pair-is (a .s) (start .pre .0) 2 (lit< tt) (a .a .red .0) (a .a .green .0) (a .a .blue .0));
-    }
+    let red = read-back (record { sfits = r .over-binary .ok }) ∙ (rw (low k .red, high k .red) at (r .over-binary .ensures)) ∙ ap over (pair-is (a .s) (start .pre .0) 0 (lit< tt) (a .red .0) (a .green .0) (a .blue .0)) in
+    let green = read-back (record { sfits = g .over-binary2 .ok }) ∙ (rw (low k .green, high k .green) at (g .over-binary2 .ensures)) ∙ ap over (pair-is (a .s) (start .pre .0) 1 (lit< tt) (a .red .0) (a .green .0) (a .blue .0)) in
+    let blue = read-back (record { sfits = c .over-binary3 .ok }) ∙ (rw (low k .blue, high k .blue) at (c .over-binary3 .ensures)) ∙ ap over (pair-is (a .s) (start .pre .0) 2 (lit< tt) (a .red .0) (a .green .0) (a .blue .0)) in
+    λ i. scenes (red i) (green i) (blue i)
 
 pub candidate-spec : {M : Type 1} → statement M
 candidate-spec =

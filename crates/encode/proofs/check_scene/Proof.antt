@@ -3,12 +3,13 @@
 use mathlib.Core.Bool.{true}
 use mathlib.Core.Logic.{⊎-elim}
 use mathlib.Core.Path.{_≡_}
-use Prim.Native.Nat.{_-_, _^_}
+use Prim.Native.Nat.{_^_}
 use borrow.Author.Needs.{needs}
-use lib.IntN.{pos, negsuc}
+use lib.IntN.{pos}
 use lib.Signed.{leZ}
 use mir.Syntax.{w64}
 use mir.Val.{SFits}
+use Rattle.whole.specs.Parts.{minus}
 use Rattle.whole.proofs.Words.{read-back}
 use Rattle.rules.specs.Encoding.{sceneCheck}
 use Rattle.encode.proofs.check_scene.Statement.{statement}
@@ -21,7 +22,7 @@ fits c = record { sfits = c .struct-told .given .0 .1 }
 returns : tie.Need-returns
 unfolding sceneCheck
 returns c =
-    let low : leZ (negsuc (2 ^ 40 - 1)) (c .before .before .before .args .x .0) ≡ true = rw (read-back (fits (c .before .before))) at (c .before .if1 .taken) in
+    let low : leZ (minus (2 ^ 40)) (c .before .before .before .args .x .0) ≡ true = rw (read-back (fits (c .before .before))) at (c .before .if1 .taken) in
     let high : leZ (c .before .before .before .args .x .0) (pos (2 ^ 40)) ≡ true = rw (read-back (fits (c .before .before))) at (c .if2 .taken) in
     rw (low, high)
 
