@@ -13,6 +13,10 @@
  * The master, from which every code of the camera comes back, is the ACES record of 28 bytes. A half record is no master: different pixels may
  * share one.
  *
+ * From ACES numbers to codes there are two ways. The way back, ropeinstant_aces_to_pixel, is for an untouched master: it refuses a record that
+ * no pixel gives. The graded road, ropeinstant_graded_to_pixel, is for graded numbers: it gives codes for any numbers from -2^38 to 2^38, and
+ * never says that something was changed, so that a damaged master may come out as some pixels without a word.
+ *
  * Curve 3 is LogC3 and curve 4 LogC4. Curve 2 is LogC of SUP 2.x firmware, with widths 10 and 12. Its scene numbers are units of normalised
  * sensor value. It has no ACES numbers, since ARRI publishes no ACES matrix for it: in a conversion to or from ACES one record of curve 2
  * refuses the whole strip, by 12.
@@ -57,6 +61,7 @@ enum ropeinstant_refusal {
     ROPEINSTANT_CODE_BELOW_FIRST = 11,
     ROPEINSTANT_NO_MATRIX = 12,
     ROPEINSTANT_CODE_NOT_DIVISIBLE = 13,
+    ROPEINSTANT_GRADED_OUT_OF_RANGE = 14,
 };
 
 /* A refusal's number in words; "converted" for 0, and "no such refusal" for a number that no function returns. */
@@ -77,6 +82,7 @@ static inline const char *ropeinstant_words(uint32_t number)
     case ROPEINSTANT_CODE_BELOW_FIRST: return "a code is below the first code of its width";
     case ROPEINSTANT_NO_MATRIX: return "the curve has no ACES matrix";
     case ROPEINSTANT_CODE_NOT_DIVISIBLE: return "a code of curve 4, width 16, is not a multiple of 16";
+    case ROPEINSTANT_GRADED_OUT_OF_RANGE: return "a graded ACES number is outside -2^38 to 2^38";
     default: return "no such refusal";
     }
 }
@@ -104,6 +110,15 @@ uint32_t ropeinstant_aces_to_half(const uint8_t *in, size_t in_len, uint8_t *out
 /* Half records (10 bytes) to ACES records (28 bytes), exactly; both zeros give 0. Written again they are the same bits, save that minus zero
  * becomes plus zero. Refuses by 1 to 5, 12 and 8. */
 uint32_t ropeinstant_half_to_aces(const uint8_t *in, size_t in_len, uint8_t *out, size_t out_len, uint64_t *at);
+
+/* The graded road: graded ACES records (28 bytes) to pixel records (10 bytes). It is ropeinstant_graded_to_scene followed by
+ * ropeinstant_scene_to_pixel: the code nearest to each scene number, of two the lower, and so the first or the top code where that is out of the
+ * camera's range. A strip that ropeinstant_aces_to_pixel converts becomes the same pixels. Refuses by 1 to 5, 12 and 14. */
+uint32_t ropeinstant_graded_to_pixel(const uint8_t *in, size_t in_len, uint8_t *out, size_t out_len, uint64_t *at);
+
+/* The same ACES records to scene records (28 bytes). The published matrix, rounded once, takes the three scene numbers to ACES numbers that
+ * differ from those given by at most 1 unit in each channel. Each scene number is from -2^40 to 2^40. Refuses by 1 to 5, 12 and 14. */
+uint32_t ropeinstant_graded_to_scene(const uint8_t *in, size_t in_len, uint8_t *out, size_t out_len, uint64_t *at);
 
 /* Float pixels, one at a time. Both return 0, or the number of the refusal, and then nothing that was lent has changed. This is proved, for
  * any numbers.

@@ -1,13 +1,13 @@
 #!/usr/bin/env python3
 """aces.py DRIVER [SEED]: have DRIVER (tests/driver.c, linked with the library) convert a million pixels to ACES and back, a million ACES
 triples one unit off, and strips that are short, long, damaged or random, by every conversion; hold every answer and every byte to
-the rules of 01 (rules.py)."""
+the rules of 01 and 02 (rules.py)."""
 import random, subprocess, sys, time
 
 from decoded import codes_of
 from rules import (
-    ACES_TO_HALF, ACES_TO_PIXEL, HALF_TO_ACES, NUMBERS, PIXEL, PIXEL_TO_ACES, PIXEL_TO_SCENE, READ, SCENE_TO_PIXEL, SETTINGS, WITH_MATRIX, WITHOUT_MATRIX, WRITTEN, aces, apart, numbers,
-    pixel_of,
+    ACES_TO_HALF, ACES_TO_PIXEL, GRADED, GRADED_TO_PIXEL, HALF_TO_ACES, NUMBERS, PIXEL, PIXEL_TO_ACES, PIXEL_TO_SCENE, READ, SCENE_TO_PIXEL, SETTINGS,
+    WITH_MATRIX, WITHOUT_MATRIX, WRITTEN, aces, apart, numbers, pixel_of,
 )
 from strips import ENDS, end_jobs, hold, jobs, returned
 
@@ -15,7 +15,9 @@ STRIPS, RECORDS = 20, 50000
 BORDERS = 1, 15, 16, 17, 1000, 4095, 4096, 4097, 20000  # records of a strip: where the library takes another way, and beside it
 SAMPLE = 1000  # of the records of each strip: the way back by definition
 LISTED = (3, 12, 800)
-NAMES = "pixel-to-scene", "scene-to-pixel", "pixel-to-aces", "aces-to-pixel", "aces-to-half", "half-to-aces"  # of the driver's conversions
+NAMES = (  # of the driver's conversions
+    "pixel-to-scene", "scene-to-pixel", "pixel-to-aces", "aces-to-pixel", "aces-to-half", "half-to-aces", "graded-to-pixel", "graded-to-scene",
+)
 
 
 def drive(driver, command, conversion, data):
@@ -62,12 +64,13 @@ def mixed(pick, table, count):
 
 
 def million(driver, pick, table):
-    """pixels to ACES, and back; triples one unit off, each alone"""
+    """pixels to ACES, and back, by the graded road too; triples one unit off, each alone"""
     for _ in range(STRIPS):
         pixels, made, off = mixed(pick, table, RECORDS)
         done = b"done %d\n" % RECORDS
         same(drive(driver, "strip", "pixel-to-aces", b"".join(pixels)), done + b"".join(made), NUMBERS.size, pixels)
-        same(drive(driver, "strip", "aces-to-pixel", b"".join(made)), done + b"".join(pixels), PIXEL.size, made)
+        for back in "aces-to-pixel", "graded-to-pixel":
+            same(drive(driver, "strip", back, b"".join(made)), done + b"".join(pixels), PIXEL.size, made)
         for r, found in zip(made[:SAMPLE] + off[:SAMPLE], pixels[:SAMPLE] + [None] * SAMPLE):
             *s, x, y, z = NUMBERS.unpack(r)
             codes = pixel_of(table, tuple(s), [x, y, z])
@@ -122,13 +125,15 @@ def main():
     assert pixel_of(table, LISTED, [-290085, -290085, -290084]) is None
     million(driver, pick, table)
     tried = borders(driver, pick, table)
-    print(f"aces: {STRIPS * RECORDS} pixels of {len(WITH_MATRIX)} settings in mixed strips: their ACES strips are exact in every byte, and give the pixels back")
+    print(f"aces: {STRIPS * RECORDS} pixels of {len(WITH_MATRIX)} settings in mixed strips: their ACES strips are exact in every byte, and give the pixels back, by the graded road too")
     print(f"aces: {STRIPS * RECORDS} ACES triples one unit off in one channel are each refused by 10 (two pixels are {float(least):.1f} units apart or more)")
     print(f"aces: strips of {', '.join(map(str, BORDERS))} ACES records give the pixels back; {tried} with a record one unit off or of curve 2 are refused there, and their outputs stay")
-    todo = [*listed(), *end_jobs(table), *jobs(pick, table, (PIXEL_TO_ACES, ACES_TO_PIXEL), 4000), *jobs(pick, table, (PIXEL_TO_SCENE, SCENE_TO_PIXEL, ACES_TO_HALF, HALF_TO_ACES), 2000)]
+    todo = [*listed(), *end_jobs(table), *jobs(pick, table, (PIXEL_TO_ACES, ACES_TO_PIXEL), 4000)]
+    todo += jobs(pick, table, (PIXEL_TO_SCENE, SCENE_TO_PIXEL, ACES_TO_HALF, HALF_TO_ACES, *GRADED), 3000)
     seen, done = hold([driver, "jobs"], table, todo)
-    assert all(f"refused {n}" in seen for n in (*range(1, 9), *range(10, 14))), seen
+    assert all(f"refused {n}" in seen for n in (*range(1, 9), *range(10, 15))), seen
     strips, _ = returned([driver, "jobs"], done, PIXEL_TO_ACES, ACES_TO_PIXEL)
+    assert returned([driver, "jobs"], done, PIXEL_TO_ACES, GRADED_TO_PIXEL)[0] == strips
     print(f"aces: {len(todo)} strips, short, long, damaged or random, are converted or refused as the rules say, every byte of the outputs too: {seen}; {strips} ACES strips give the pixels back ({time.time() - begun:.0f} s)")
 
 

@@ -1,12 +1,12 @@
 #!/usr/bin/env python3
 """archive.py PROGRAM [TEST..]: what an archive does with its masters by the command: check, inspect and verify them, several at once too, and hold them to their manifests;
-with half floats, which are no master; and with reels of older firmware, which have none."""
+with half floats, which are no master; with graded masters, which the exact way back refuses; and with reels of older firmware, which have no master."""
 import hashlib, json, random
 
 from binary16 import units_of
 from calls import DONE, FILES, GOOD, NO_MATRIX, OLD, REFUSED, USAGE, begin, begun, call, each, holds, keeps, litter, until
 from reel import reel, run
-from rules import HALVES, NUMBERS, PIXEL, WITHOUT_MATRIX
+from rules import GRADED_TO_PIXEL, HALVES, NUMBERS, PIXEL, WITHOUT_MATRIX, convert, numbers
 
 ACES = NUMBERS.pack(3, 12, 800, -238167, -283566, -289928)  # of GOOD
 OTHER = PIXEL.pack(3, 12, 800, 101, 0, 0)
@@ -229,6 +229,56 @@ def halves(folder):
     assert said.endswith("refused 8: record 2 (byte 20): green half 0xfc00 is minus infinity\n"), said
 
 
+def warmer(aces, to):
+    """a master as a colourist may leave it: an eighth more red, an eighth less blue"""
+    records = (record[:3] + tuple(x * k // 8 for x, k in zip(record[3:], (9, 8, 7))) for record in NUMBERS.iter_unpack(aces.read_bytes()))
+    to.write_bytes(b"".join(NUMBERS.pack(*record) for record in records))
+
+
+def graded(folder):
+    """a graded master goes to the nearest codes, at once and by way of scene records, where the exact way back refuses it; an unmoved one comes back the same by
+    either road; and the graded road says nothing of damage"""
+    pixels, aces = made(folder)
+    changed, out, scene, again = (folder / name for name in ("graded.aces", "graded.pixels", "graded.scene", "again.pixels"))
+    for road in "to-camera", "graded-to-camera":
+        assert call(road, aces, out) == (DONE, "", "") and out.read_bytes() == pixels.read_bytes(), road
+
+    warmer(aces, changed)
+    keeps(out, "to-camera", changed, out, status=REFUSED, saying=f"{changed}: refused 10: record ")
+    holds(call("check", changed), REFUSED, f"{changed}: refused 10: record ")
+    holds(call("verify", pixels, changed), REFUSED, f"{changed}: refused 10: record ")
+    assert call("graded-to-camera", changed, out, "--manifest") == (DONE, "", "")
+    data = changed.read_bytes()
+    table = {s: numbers(s) for s in {record[:3] for record in NUMBERS.iter_unpack(data)}}
+    assert convert(table, GRADED_TO_PIXEL, data, bytes(len(out.read_bytes()))) == ("done 40000", out.read_bytes())
+    value = json.loads((folder / "graded.pixels.manifest").read_text())
+    assert (value["kind"], value["records"], value["from"]["kind"]) == ("pixel", 40000, "ACES"), value
+    assert call("graded-to-scene", changed, scene) == (DONE, "", "") and call("from-scene", scene, again) == (DONE, "", "")
+    assert again.read_bytes() == out.read_bytes() != pixels.read_bytes()
+
+    # most ACES records that were half floats are no pixel's: the graded road takes them
+    half, read = folder / "shot.half", folder / "read.aces"
+    assert call("to-half", aces, half) == (DONE, "", "") and call("from-half", half, read) == (DONE, "", "")
+    keeps(again, "to-camera", read, again, status=REFUSED, saying=f"{read}: refused 10: record ")
+    assert call("graded-to-camera", read, again) == (DONE, "", "")
+
+    place = f"record 31000 (byte {NUMBERS.size * 31000})"
+    bad = damaged(aces, folder / "bad.aces", NUMBERS.size * 31000 + 7)
+    keeps(again, "to-camera", bad, again, status=REFUSED, saying=f"{bad}: refused 10: {place}: no pixel of curve ")
+    assert call("graded-to-camera", bad, again) == (DONE, "", "")
+    both = zip(PIXEL.iter_unpack(pixels.read_bytes()), PIXEL.iter_unpack(again.read_bytes()))
+    assert [k for k, (own, other) in enumerate(both) if own != other] == [31000]
+    bad.write_bytes(data[:56] + NUMBERS.pack(3, 12, 800, 2 ** 38, -2 ** 38 - 1, 2 ** 40))
+    words = f"{bad}: refused 14: record 2 (byte 56): green ACES number -274877906945 is outside -274877906944 to 274877906944\n"
+    keeps(again, "graded-to-camera", bad, again, status=REFUSED, saying=words)
+    keeps(scene, "graded-to-scene", bad, scene, status=REFUSED, saying=words)
+
+    keeps(scene, "graded-to-camera", changed, scene, status=USAGE, saying=f"{scene} is named as scene records, and pixel records would be written there")
+    keeps(aces, "graded-to-scene", changed, aces, status=USAGE, saying=f"{aces} is named as ACES records, and scene records would be written there")
+    keeps(again, "graded-to-camera", scene, again, status=USAGE, saying=f"{scene} is named as scene records, and ACES records are read here")
+    keeps(scene, "graded-to-scene", out, scene, status=REFUSED, saying="says that it holds pixel records, and ACES records are read")
+
+
 def older_firmware(folder):
     """reels of curve 2 go to scene and come back; what needs ACES refuses them, by name and place, and says which conversion takes them"""
     pick, pixels, scene, out = random.Random(1), folder / "old.pixels", folder / "old", folder / "out"
@@ -270,4 +320,4 @@ def older_firmware(folder):
 
 
 if __name__ == "__main__":
-    each((checked, held_to_master, manifests, unreplaced, inspected, halves, older_firmware))
+    each((checked, held_to_master, manifests, unreplaced, inspected, halves, graded, older_firmware))

@@ -10,15 +10,19 @@ from binary16 import fields, finite
 from decoded import SETTINGS, WIDTHS, codes_of
 from peak import watched
 from reel import reel
-from rules import ACES_TO_HALF, ACES_TO_PIXEL, HALF_TO_ACES, HALVES, LIMIT, NUMBERS, PIXEL, PIXEL_TO_ACES, PIXEL_TO_SCENE, READ, SCENE_TO_PIXEL, WRITTEN, convert, numbers
-from strips import jobs
+from rules import (
+    ACES_TO_HALF, ACES_TO_PIXEL, GRADED, GRADED_LIMIT, GRADED_TO_PIXEL, GRADED_TO_SCENE, HALF_TO_ACES, HALVES, LIMIT, NUMBERS, PIXEL, PIXEL_TO_ACES,
+    PIXEL_TO_SCENE, READ, SCENE_TO_PIXEL, WRITTEN, convert, numbers,
+)
+from strips import BEYOND, jobs
 
 CHOSEN = [s for s in SETTINGS if s[:2] != (3, 16) or s[2] == 800]  # one of the eleven with 65536 codes
 CHANNELS = "red", "green", "blue"
 REFUSALS = {  # of each conversion, in the order in which they are tried
     PIXEL_TO_ACES: "1 3 4 5 12 13 11 6", ACES_TO_PIXEL: "1 3 4 5 12 10", PIXEL_TO_SCENE: "1 3 4 5 13 11 6", SCENE_TO_PIXEL: "1 3 4 5 7",
-    ACES_TO_HALF: "1 3 4 5 12", HALF_TO_ACES: "1 3 4 5 12 8",
+    ACES_TO_HALF: "1 3 4 5 12", HALF_TO_ACES: "1 3 4 5 12 8", GRADED_TO_PIXEL: "1 3 4 5 12 14", GRADED_TO_SCENE: "1 3 4 5 12 14",
 }
+WHICH_WAY = "to-camera is for an untouched master"  # of what the help says of the two ways to codes
 
 
 # ---- help and wrong usage
@@ -28,7 +32,8 @@ def help_and_version():
     assert status == DONE and not wrong and all(f"\n  {name} " in said for name in (*NAMES.values(), *LOOKING, "demo")), said
     for words in (
         "160, 200, 250, 320, 400, 500, 640, 800, 1000, 1280, 1600", "one unit is 2^-24", "10  no pixel of the setting",
-        "3   the curve is not 2, 3 or 4\n", "12  the curve has no ACES matrix\n", "no OpenEXR file",
+        "3   the curve is not 2, 3 or 4\n", "12  the curve has no ACES matrix\n", "14  a graded ACES number is outside -2^38 to 2^38\n", "no OpenEXR file",
+        WHICH_WAY,
     ):
         assert words in said, said
     for name in (*NAMES.values(), *LOOKING):
@@ -42,6 +47,8 @@ def help_and_version():
         assert ("A HALF FILE IS NO MASTER." in said) == (conversion == ACES_TO_HALF), said
         assert ("within 9/8 of a unit of what the exact curve and matrix give" in said) == (conversion == PIXEL_TO_ACES), said
         assert ("within 51/100 of a unit" in said) == (conversion == PIXEL_TO_SCENE), said
+        assert (WHICH_WAY in said) == (conversion in (ACES_TO_PIXEL, *GRADED)), said
+        assert ("differ from those given by at most 1 unit in each" in said) == (conversion == GRADED_TO_SCENE), said
     status, said, wrong = call("--version")
     assert status == DONE and not wrong and re.fullmatch(r"ropeinstant \d+\.\d+\.\d+\n", said), said
     with open("/dev/full", "wb") as full:
@@ -101,9 +108,10 @@ def words_of(number, k, conversion, data):
         first, top = codes_of((curve, width))[0], codes_of((curve, width))[-1]
         name, code = next((name, code) for name, code in zip(CHANNELS, channels) if not first <= code <= top)
         return where + f"{name} code {code} is {f'below {first}' if number == 11 else f'above {top}'}\n"
-    if number == 7:
-        name, scene = next((name, scene) for name, scene in zip(CHANNELS, channels) if abs(scene) > LIMIT)
-        return where + f"{name} scene number {scene} is outside -1099511627776 to 1099511627776\n"
+    if number in (7, 14):
+        what, limit = ("scene number", 1099511627776) if number == 7 else ("ACES number", 274877906944)
+        name, x = next((name, x) for name, x in zip(CHANNELS, channels) if abs(x) > limit)
+        return where + f"{name} {what} {x} is outside -{limit} to {limit}\n"
     if number == 8:
         name, half = next((name, half) for name, half in zip(CHANNELS, channels) if not finite(half))
         sign, _, fraction = fields(half)
@@ -139,7 +147,7 @@ def held_to_rules(folder, pick, table, count):
             keeps(out, *run, status=REFUSED, saying=saying, data=data if piped else None)
         cause = "done" if how == "done" else f"refused {number}"
         seen[cause] = seen.get(cause, 0) + 1
-    assert all(cause in seen for cause in ("done", *(f"refused {n}" for n in (1, 3, 4, 5, 6, 7, 8, 10, 11, 12, 13)))), seen
+    assert all(cause in seen for cause in ("done", *(f"refused {n}" for n in (1, *range(3, 9), *range(10, 15))))), seen
     return dict(sorted(seen.items()))
 
 
@@ -163,6 +171,12 @@ def listed():
         ((3, 12, 800), (0x7BFF, 0x7C00, 0xFFFF)), ((3, 12, 800), (0, 0, 0xFC00)), ((4, 12, 0), (0x7C01, 0, 0)), ((2, 12, 800), (0x7C00, 0, 0)), ((4, 10, 0), (0x7C00, 0, 0)),
     )]
     tried += [(ACES_TO_HALF, aces * 4 + NUMBERS.pack(*s, -2 ** 63, 2 ** 63 - 1, 0), b"") for s in ((3, 12, 800), (2, 12, 800), (3, 12, 2000))]
+    end, (low, high) = GRADED_LIMIT, BEYOND
+    tried += [(c, aces * 6 + NUMBERS.pack(*s, *triple), b"") for c in GRADED for s, triple in (
+        ((3, 12, 800), (end, -end, end)), ((4, 140, 0), (-end, end, -end)), ((4, 16, 0), (high, low, high)), ((3, 12, 800), (0, low, 2 ** 63 - 1)),
+        ((3, 10, 800), (end, -end, high)), ((4, 12, 0), (-2 ** 63, 0, 0)), ((3, 16, 800), (0, 0, 2 ** 63 - 1)),
+        ((2, 12, 800), (high, 0, 0)), ((2, 12, 0), (high, 0, 0)), ((2, 16, 800), (high, 0, 0)), ((7, 12, 800), (high, 0, 0)),
+    )]
     tried += [(c, aces * 3 + NUMBERS.pack(2, 12, 800, 53187, x, 0), b"") for c in (SCENE_TO_PIXEL, ACES_TO_PIXEL) for x in (65554, LIMIT + 1)]
     tried += [(c, b"", b"") for c in NAMES] + [(c, bytes(29), b"") for c in NAMES]
     return tried + [(PIXEL_TO_ACES, of_pixels[0] + GOOD * 40 + b"tail", b"")]
@@ -413,7 +427,7 @@ def main():
     apart(wrong_usage)
     apart(demo)
     print("command: help and version, and wrong usage, which touches no file")
-    print(f"command: converted or refused as the rules say, in words, by files and pipes: {apart(held_to_rules, pick, table, 400)}")
+    print(f"command: converted or refused as the rules say, in words, by files and pipes: {apart(held_to_rules, pick, table, 500)}")
     print(f"command: the same bytes, and the same first refusal, in {apart(any_split, pick)} splits of chunk and threads")
     for test in verified, dripped, bar, full_disk, killed:
         answer = apart(test, pick)

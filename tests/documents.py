@@ -381,15 +381,15 @@ def curve(module):
 
 
 def figures(sources, texts):
-    """the tables of FORMAT.md and COMMAND.md that hold figures: the settings, the constants, the matrices, the
+    """the tables of FORMAT.md and COMMAND.md that hold figures: the settings, the constants, the matrices and their inverses, the
     bytes of a record and the refusals' numbers are those of the code and of the rules; the top codes that FORMAT.md
     gives are those of the widths in bits; and README.md has the count of settings"""
     curves = [curve("log_c2"), curve("log_c3"), curve("log_c4")]
     record = (ROOT / "crates/rules/specs/Record.antt").read_text()
     code, number, half = (4 + 3 * int(re.search(rf"(?m)^{name} = (\d+)", record)[1]) for name in ("codeBytes", "numberBytes", "halfBytes"))
     refused = re.findall(r"(?m)^numberOf \w+ = (\d+)", (ROOT / "crates/rules/specs/Refusal.antt").read_text())
-    entries = (ROOT / "crates/aces/src/entries.rt").read_text()
-    entries = [line.split(", ") for line in re.findall(r"\[(-?\d+, -?\d+, -?\d+)\]", entries)]
+    entries, inverse = ([line.split(", ") for line in re.findall(r"\[(-?\d+, -?\d+, -?\d+)\]", (ROOT / f"crates/{crate}/src/entries.rt").read_text())]
+                        for crate in ("aces", "aces_inverse"))
     wanted = {
         ("Curve", "Widths", "EI"): [[n, widths, eis] for n, widths, eis, _ in curves],
         ("Kind", "Bytes"): [["pixel", str(code)], ["scene", str(number)], ["ACES", str(number)], ["half", str(half)]],
@@ -397,6 +397,7 @@ def figures(sources, texts):
         ("EI", *"cut b c d e f".split()): [
             [ei] + [row[k] for k in "cut b c d e f".split()] for ei, row in curves[1][3].items()],
         ("from red", "from green", "from blue"): entries,
+        ("times red", "times green", "times blue"): inverse,
         ("No.",): [[n] for n in refused],
     }
     widths = sorted({int(width) for _, some, *_ in curves for width in some.split(", ")})
@@ -431,6 +432,14 @@ def bounds(sources, texts):
         yield from (f"{place}: {figure} of a unit is no bound of the rules" for figure in {*said} - {decoded, aces})
 
 
+def graded(sources, texts):
+    """how far the ACES numbers of what the graded road gives may be off is said in each of these places, and is what is proved"""
+    off = re.search(r"(?m)^reached = (\d+)", (ROOT / "crates/graded/specs/Graded.antt").read_text())[1]
+    for place, text in {README: texts[README], FORMAT: texts[FORMAT], "include/ropeinstant.h": sources.installed, "the help": sources.tool}.items():
+        if {*re.findall(r"(?:within|by at most) (\d+) (?:unit|in each channel)", re.sub(r"[ *\n]+", " ", text))} != {off}:
+            yield f"{place}: graded numbers are off by at most {off}"
+
+
 @functools.lru_cache(maxsize=None)
 def read(sources, document, text):
     """what is wrong with the names of a document, the edits that it names, and the proofs that it cites"""
@@ -462,7 +471,7 @@ def complaints(sources, texts):
     wrong += [f"crates/{c} is not in {ARCHITECTURE}" for c in sources.crates if c not in listed]
     named = " ".join(" ".join(texts.values()).split())
     wrong += [f"tests/documents.py: no document has `{name}`" for name in ALLOWED if f"`{name}`" not in named]
-    return [*wrong, *ids(texts), *links(texts), *long_lines(texts), *figures(sources, texts), *bounds(sources, texts)]
+    return [*wrong, *ids(texts), *links(texts), *long_lines(texts), *figures(sources, texts), *bounds(sources, texts), *graded(sources, texts)]
 
 
 # ---- the quotations
@@ -517,6 +526,8 @@ def damaged(sources, texts):
     yield "another count of settings", swap(" settings", " curves", README), "settings"
     yield "another bound", swap("51/100 of a unit", "50/100 of a unit", README), "50/100 of a unit is no bound"
     yield "no bound of an ACES number", swap("9/8 of a unit", "a unit", FORMAT), "the bound of an ACES number is 9/8"
+    yield "another distance of graded numbers", swap("within 1 unit", "within 2 units", README), "graded numbers are off by at most 1"
+    yield "another entry of an inverse", swap("| 1666845747229 |", "| 1666845747228 |", FORMAT), FORMAT
     yield "a name of another file", swap(f"{named} in {place}", f"`main` in {place}", DECISIONS), "`main` is not in"
     yield "an open function with a `requires`", swap(open_one[0], f"{asks.crate} `{asks.name}`"), asks.name
     yield "an open function not listed", swap(f"| {open_one[0]} |", "| |"), open_one[2]

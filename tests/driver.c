@@ -32,6 +32,8 @@ static const struct conversion CONVERSIONS[] = {
     {"aces-to-pixel", ropeinstant_aces_to_pixel, 28, 10},
     {"aces-to-half", ropeinstant_aces_to_half, 28, 10},
     {"half-to-aces", ropeinstant_half_to_aces, 10, 28},
+    {"graded-to-pixel", ropeinstant_graded_to_pixel, 28, 10},
+    {"graded-to-scene", ropeinstant_graded_to_scene, 28, 28},
 };
 enum { COUNT = sizeof CONVERSIONS / sizeof CONVERSIONS[0] };
 

@@ -9,13 +9,16 @@ from binary16 import finite, half_of, units_of
 from decoded import SETTINGS, codes_of, exact, refusal, setting_refusal
 
 LIMIT = 2 ** 40  # of a scene number to encode
-CONVERSIONS = range(6)
-PIXEL_TO_SCENE, SCENE_TO_PIXEL, PIXEL_TO_ACES, ACES_TO_PIXEL, ACES_TO_HALF, HALF_TO_ACES = CONVERSIONS
+GRADED_LIMIT = 2 ** 38  # of an ACES number on the graded road
+GRADED_OFF = 2  # 02, item 7: the units that its scene numbers' ACES numbers may be off
+CONVERSIONS = range(8)
+PIXEL_TO_SCENE, SCENE_TO_PIXEL, PIXEL_TO_ACES, ACES_TO_PIXEL, ACES_TO_HALF, HALF_TO_ACES, GRADED_TO_PIXEL, GRADED_TO_SCENE = CONVERSIONS
+GRADED = GRADED_TO_PIXEL, GRADED_TO_SCENE
 # a record: curve, width, EI, and three codes, numbers, or halves by their bits
 PIXEL, NUMBERS, HALVES = Struct("<BBH3H"), Struct("<BBH3q"), Struct("<BBH3H")
-READ = (PIXEL, NUMBERS, PIXEL, NUMBERS, NUMBERS, HALVES)  # by each conversion
-WRITTEN = (NUMBERS, PIXEL, NUMBERS, PIXEL, HALVES, NUMBERS)
-TO_OR_FROM_ACES = PIXEL_TO_ACES, ACES_TO_PIXEL, ACES_TO_HALF, HALF_TO_ACES
+READ = (PIXEL, NUMBERS, PIXEL, NUMBERS, NUMBERS, HALVES, NUMBERS, NUMBERS)  # by each conversion
+WRITTEN = (NUMBERS, PIXEL, NUMBERS, PIXEL, HALVES, NUMBERS, PIXEL, NUMBERS)
+TO_OR_FROM_ACES = PIXEL_TO_ACES, ACES_TO_PIXEL, ACES_TO_HALF, HALF_TO_ACES, *GRADED
 MATRICES = {  # curve: scale, rows; 02, item 3: none is published for curve 2
     4: (10 ** 18, (
         (750957362824734131, 144422786709757084, 104619850465508965),
@@ -44,10 +47,14 @@ def nearest(table, s, x):
     return min(codes[max(i - 1, 0):i + 1], key=lambda n: (abs(x - ys[n]), n))
 
 
-def aces(s, r, g, b):
-    """the ACES numbers of three decoded numbers: the row product over the scale, to the nearest whole number, a half going up"""
-    scale, rows = MATRICES[s[0]]
+def product(scale, rows, r, g, b):
+    """a matrix of whole numbers over a scale, by three numbers: the row product over the scale, to the nearest whole number, a half going up"""
     return [(2 * (i * r + j * g + k * b) + scale) // (2 * scale) for i, j, k in rows]
+
+
+def aces(s, r, g, b):
+    """the ACES numbers of three scene numbers"""
+    return product(*MATRICES[s[0]], r, g, b)
 
 
 def inverse(scale, rows):
@@ -59,6 +66,28 @@ def inverse(scale, rows):
 
 
 INVERSES = {curve: inverse(*matrix) for curve, matrix in MATRICES.items()}
+
+
+def inverse_over(curve, scale):
+    """the scale, and the inverse of a curve's matrix with each entry times the scale, to the nearest whole number"""
+    over, rows = INVERSES[curve]
+    return scale, [[floor(Fraction(scale * m, over) + Fraction(1, 2)) for m in row] for row in rows]
+
+
+# what takes graded numbers to scene numbers; 02 leaves free which these are, and docs/FORMAT.md gives this inverse
+GRADING = {curve: inverse_over(curve, 2 ** 40) for curve in MATRICES}
+
+
+def units_off(s, scenes, triple):
+    """the most units that the ACES numbers of three scene numbers are off a triple in a channel"""
+    return max(abs(made - given) for made, given in zip(aces(s, *scenes), triple))
+
+
+def graded(s, triple):
+    """02, item 7: the scene numbers of a graded triple within the limit. Their ACES numbers are as near as it asks, and encoding takes them"""
+    scenes = product(*GRADING[s[0]], *triple)
+    assert units_off(s, scenes, triple) <= GRADED_OFF and all(abs(x) <= LIMIT for x in scenes), (s, triple, scenes)
+    return scenes
 
 
 def pixel_of(table, s, triple):
@@ -113,6 +142,11 @@ def one(table, conversion, s, channels):
         return [half_of(v) for v in channels]
     if conversion == HALF_TO_ACES:
         return 8 if any(not finite(h) for h in channels) else [units_of(h) for h in channels]
+    if conversion in GRADED:
+        if any(not -GRADED_LIMIT <= a <= GRADED_LIMIT for a in channels):
+            return 14
+        scenes = graded(s, channels)
+        return scenes if conversion == GRADED_TO_SCENE else [nearest(table, s, x) for x in scenes]
     return pixel_of(table, s, channels) or 10
 
 

@@ -103,6 +103,8 @@ int main(void)
         {"ACES to pixel", ropeinstant_aces_to_pixel, 28, WITH_MATRIX, ropeinstant_pixel_to_aces},
         {"ACES to half", ropeinstant_aces_to_half, 28, WITH_MATRIX, ropeinstant_pixel_to_aces},
         {"half to ACES", ropeinstant_half_to_aces, 10, WITH_MATRIX, halves_of},
+        {"graded to pixel", ropeinstant_graded_to_pixel, 28, WITH_MATRIX, ropeinstant_pixel_to_aces},
+        {"graded to scene", ropeinstant_graded_to_scene, 28, WITH_MATRIX, ropeinstant_pixel_to_aces},
     };
     const struct {
         const char *name;

@@ -1,11 +1,14 @@
 #!/usr/bin/env python3
 """strips.py PROGRAM [SEED]: have PROGRAM (target/bin/test_strips) convert strips, whole, short and damaged, and hold each answer and every byte
-of each output strip to the rules of 01 (rules.py)."""
+of each output strip to the rules of 01 and 02 (rules.py)."""
 import random, subprocess, sys, time
 
 from binary16 import END, units_of
 from decoded import codes_of
-from rules import ACES_TO_HALF, ACES_TO_PIXEL, CONVERSIONS, HALF_TO_ACES, LIMIT, PIXEL, PIXEL_TO_ACES, PIXEL_TO_SCENE, READ, SCENE_TO_PIXEL, SETTINGS, WRITTEN, aces, convert, numbers, setting_check
+from rules import (
+    ACES_TO_HALF, ACES_TO_PIXEL, CONVERSIONS, GRADED, GRADED_LIMIT, GRADED_TO_PIXEL, HALF_TO_ACES, LIMIT, PIXEL, PIXEL_TO_ACES, PIXEL_TO_SCENE, READ,
+    SCENE_TO_PIXEL, SETTINGS, WRITTEN, aces, convert, numbers, setting_check,
+)
 
 CHOSEN = [s for s in SETTINGS if s[1] != 16] + [(3, 16, 160), (3, 16, 800), (3, 16, 1600), (4, 16, 0)]
 INVALID = [
@@ -15,6 +18,8 @@ INVALID = [
 SENSOR = [(2, 10, 160), (2, 12, 800)]  # valid, except in conversions to and from ACES
 PASSES = 3, 12, 800  # in every conversion
 ENDS = (-2 ** 63, -2 ** 63 + 1, 2 ** 63 - 1, -2 ** 40 - 1, 2 ** 40 + 1, 2 ** 34, -2 ** 34, 0)
+GRADED_ENDS = tuple(sign * (GRADED_LIMIT - k) for k in (0, 1) for sign in (-1, 1))  # of an ACES number on the graded road, which pass
+BEYOND = -GRADED_LIMIT - 1, GRADED_LIMIT + 1
 
 
 def codes(pick, s):
@@ -43,6 +48,20 @@ def triple(pick, ys, s):
     return made
 
 
+def moved(pick, x):
+    """an ACES number on the graded road: one of a pixel, that or some units off, or any within the limit"""
+    any_size = pick.choice((-1, 1)) * pick.getrandbits(pick.randrange(1, 39))
+    return pick.choice((x, x, x + pick.randrange(-9, 10), x + pick.randrange(-2 ** 30, 2 ** 30), any_size, pick.choice(GRADED_ENDS)))
+
+
+def graded_triple(pick, ys, s):
+    """three of them; of one in thirty a channel is at an end of some limit, or beyond"""
+    made = [moved(pick, x) for x in aces(s, *(ys[n] for n in codes(pick, s)))]
+    if pick.randrange(30) == 0:
+        made[pick.randrange(3)] = pick.choice((*BEYOND, *ENDS))
+    return made
+
+
 def half(pick):
     """a finite half; one in a hundred an infinity or NaN"""
     h = pick.choice((0, 0x8000)) + pick.randrange(0x7C00)
@@ -59,7 +78,9 @@ def channels(pick, ys, s, conversion):
     if READ[conversion] is PIXEL:
         return codes(pick, s)
     one = {SCENE_TO_PIXEL: lambda: scene(pick, ys, s), ACES_TO_HALF: lambda: beside_half(pick), HALF_TO_ACES: lambda: half(pick)}
-    return triple(pick, ys, s) if conversion == ACES_TO_PIXEL else [one[conversion]() for _ in range(3)]
+    if conversion in one:
+        return [one[conversion]() for _ in range(3)]
+    return (graded_triple if conversion in GRADED else triple)(pick, ys, s)
 
 
 def strip(pick, table, conversion):
@@ -173,11 +194,11 @@ def main():
     begun = time.time()
     pick = random.Random(int(sys.argv[2]) if len(sys.argv) > 2 else 1)
     table = {s: numbers(s) for s in CHOSEN}
-    todo = [(0, bytes(11), bytes(100)), (0, b"", b""), (1, b"", b""), *end_jobs(table), *jobs(pick, table, CONVERSIONS, 6000)]
+    todo = [(0, bytes(11), bytes(100)), (0, b"", b""), (1, b"", b""), *end_jobs(table), *jobs(pick, table, CONVERSIONS, 8000)]
     seen, done = hold([sys.argv[1]], table, todo)
-    assert all(f"refused {n}" in seen for n in (*range(1, 9), *range(10, 14))), seen
+    assert all(f"refused {n}" in seen for n in (*range(1, 9), *range(10, 15))), seen
     print(f"strips: {len(todo)} strips are converted or refused as the rules say, every byte of the outputs too: {seen}")
-    for name, there, back in ("scene", PIXEL_TO_SCENE, SCENE_TO_PIXEL), ("ACES", PIXEL_TO_ACES, ACES_TO_PIXEL):
+    for name, there, back in ("scene", PIXEL_TO_SCENE, SCENE_TO_PIXEL), ("ACES", PIXEL_TO_ACES, ACES_TO_PIXEL), ("graded", PIXEL_TO_ACES, GRADED_TO_PIXEL):
         strips, records = returned([sys.argv[1]], done, there, back)
         print(f"strips: {strips} pixel strips are returned by {name} to pixel, {records} records")
     print(f"strips: {time.time() - begun:.0f} s")

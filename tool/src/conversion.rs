@@ -1,7 +1,9 @@
 //! The conversions: the one table of their names, the kinds that each reads and writes, its function of the library, what it
 //! promises and its refusals.
 use crate::kinds::{Kind, ACES, HALF, PIXEL, SCENE};
-use crate::library::{aces_to_half, aces_to_pixel, half_to_aces, pixel_to_aces, pixel_to_scene, scene_to_pixel, Answer};
+use crate::library::{
+    aces_to_half, aces_to_pixel, graded_to_pixel, graded_to_scene, half_to_aces, pixel_to_aces, pixel_to_scene, scene_to_pixel, Answer,
+};
 
 pub struct Conversion {
     pub name: &'static str,
@@ -87,7 +89,8 @@ pub const FROM_HALF: Conversion = Conversion {
     promise: "\
 Each ACES number is exactly the value of the half. to-half gives the same bits
 again, save that minus zero becomes plus zero. to-camera refuses a record that
-is not exactly what a pixel gives, and so most records that were half floats.
+is not exactly what a pixel gives, and so most records that were half floats;
+graded-to-camera takes them, if no half is beyond 16384 or -16384.
 ",
     from: &HALF,
     to: &ACES,
@@ -95,9 +98,39 @@ is not exactly what a pixel gives, and so most records that were half floats.
     refusals: &[1, 3, 4, 5, 12, 8],
 };
 
-pub const CONVERSIONS: [&Conversion; 6] = [&TO_ACES, &TO_CAMERA, &TO_SCENE, &FROM_SCENE, &TO_HALF, &FROM_HALF];
+pub const GRADED_TO_CAMERA: Conversion = Conversion {
+    name: "graded-to-camera",
+    about: "Converts graded ACES records to pixels",
+    promise: "\
+Each code is the nearest to the scene number that graded-to-scene gives, of two
+the lower, as from-scene finds it: a channel out of the camera's range gets the
+first or the top code. Where to-camera converts a file, this gives the same
+pixels.
+",
+    from: &ACES,
+    to: &PIXEL,
+    convert: graded_to_pixel,
+    refusals: &[1, 3, 4, 5, 12, 14],
+};
 
-/// The conversion that judges records of a kind. Pixels need no matrix to be sound.
+pub const GRADED_TO_SCENE: Conversion = Conversion {
+    name: "graded-to-scene",
+    about: "Converts graded ACES records to scene records",
+    promise: "\
+The matrix, rounded once, takes the scene numbers of a record to ACES numbers
+that differ from those given by at most 1 unit in each channel. from-scene
+takes every scene record that this writes.
+",
+    from: &ACES,
+    to: &SCENE,
+    convert: graded_to_scene,
+    refusals: &[1, 3, 4, 5, 12, 14],
+};
+
+pub const CONVERSIONS: [&Conversion; 8] =
+    [&TO_ACES, &TO_CAMERA, &TO_SCENE, &FROM_SCENE, &TO_HALF, &FROM_HALF, &GRADED_TO_CAMERA, &GRADED_TO_SCENE];
+
+/// The conversion that judges records of a kind. Pixels need no matrix to be sound, and ACES records are judged as an untouched master.
 pub fn judging(kind: &Kind) -> &'static Conversion {
     match kind.name {
         "pixel" => &TO_SCENE,

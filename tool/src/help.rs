@@ -1,5 +1,5 @@
 //! The texts of the help that are not the options: what a file is, the tables, and what each subcommand promises. No line is longer than 80.
-use crate::conversion::{Conversion, TO_ACES};
+use crate::conversion::{Conversion, GRADED_TO_CAMERA, GRADED_TO_SCENE, TO_ACES, TO_CAMERA};
 use crate::kinds::{Form, KINDS};
 use crate::refusals::REFUSALS;
 use crate::settings::{Curve, Width, CURVES};
@@ -10,7 +10,7 @@ numbers and ACES numbers, and back, exactly.";
 pub const VERIFY: &str = "Looks whether pixels come back from ACES, or from a master";
 pub const CHECK: &str = "Looks whether every record of a master comes from a pixel";
 pub const INSPECT: &str = "Shows what a file holds";
-pub const DEMO: &str = "Takes reels of every setting to ACES or scene and back; no input";
+pub const DEMO: &str = "Takes reels to ACES or scene numbers and back; no input";
 pub const PAIR: &str = "Hold the first file, pixels, to the second, its master";
 pub const BY_SCENE: &str = "Go by scene numbers in place of ACES";
 
@@ -19,8 +19,9 @@ const STATUS: &str = "Exit status: 0 done, 1 refused, 2 wrong usage, 3 reading o
 /// What stands below the general help.
 pub fn general() -> String {
     format!(
-        "{}\n{}\n{}\n{}\n{}",
+        "{}\n{}\n{}\n{}\n{}\n{}",
         file(),
+        WAYS_TO_CODES,
         curves(),
         refusals(),
         "'ropeinstant SUBCOMMAND --help' says what it reads, writes and refuses.\n",
@@ -115,13 +116,17 @@ fn refusals() -> String {
 /// What stands below the help of a conversion.
 pub fn of_conversion(conversion: &Conversion) -> String {
     let mut text = format!(
-        "IN holds {} records of {} bytes, OUT {} records of {} bytes.\n{}\nRefused by\n",
+        "IN holds {} records of {} bytes, OUT {} records of {} bytes.\n{}\n",
         conversion.from.name,
         conversion.from.size(),
         conversion.to.name,
         conversion.to.size(),
         conversion.promise
     );
+    if [TO_CAMERA.name, GRADED_TO_CAMERA.name, GRADED_TO_SCENE.name].contains(&conversion.name) {
+        text += &format!("{}\n", WAYS_TO_CODES);
+    }
+    text += "Refused by\n";
     for refusal in REFUSALS.iter().filter(|refusal| conversion.refusals.contains(&refusal.number)) {
         text += &format!("    {:<3} {}\n", refusal.number, refusal.when);
     }
@@ -140,6 +145,14 @@ pub fn of_looking(name: &str) -> String {
     };
     format!("{}\n{}\n{}", about, INPUT, STATUS)
 }
+
+/// Which way to take from ACES numbers to codes.
+const WAYS_TO_CODES: &str = "\
+to-camera is for an untouched master: it refuses a record that no pixel gives.
+graded-to-camera and graded-to-scene are for graded numbers: they take any from
+-2^38 to 2^38, and never say that something was changed. A damaged master may
+come out of them as some pixels or scene numbers without a word.
+";
 
 const VERIFY_MORE: &str = "\
 It writes no file. Of several files each is verified, and the sum said: status 1
@@ -165,7 +178,8 @@ like pixels, and are shown where one of the three says that it holds them. It
 shows the settings with their counts, the range of each channel, and the first
 refusal: status 1 if there is one. Pixels are judged as to-scene judges them.
 Where some of them have no ACES matrix it says how many, and that to-aces
-refuses the file.
+refuses the file. ACES records are judged as to-camera judges them, so that a
+graded record that no pixel gives is refused.
 ";
 
 const INPUT: &str = "\
@@ -232,8 +246,9 @@ mod tests {
         assert!(text.contains("4      12, 16, 140  0\n") && text.contains("one unit is 2^-24") && text.contains("    10  no pixel"));
         assert!(text.contains("Width 140 is the legal range of 12 bits: the codes 256 to 3760.\n"));
         assert!(text.contains("Width 16 of curve 4 is the 12-bit code times 16, as recorders write it: up to\n65520, and no code"));
-        let places = ["5   the EI", "12  the curve has no", "13  a code of curve 4", "11  a code is below", "6   a code is above"]
-            .map(|words| text.find(words));
+        let places =
+            ["5   the EI", "12  the curve has no", "13  a code of curve 4", "11  a code is below", "6   a code is above", "14  a graded"]
+                .map(|words| text.find(words));
         assert!(places[0].is_some() && places.windows(2).all(|two| two[0] < two[1]));
     }
 }

@@ -18,6 +18,8 @@ extern "C" {
     fn ropeinstant_aces_to_pixel(input: *const u8, input_len: usize, output: *mut u8, output_len: usize, at: *mut u64) -> u32;
     fn ropeinstant_aces_to_half(input: *const u8, input_len: usize, output: *mut u8, output_len: usize, at: *mut u64) -> u32;
     fn ropeinstant_half_to_aces(input: *const u8, input_len: usize, output: *mut u8, output_len: usize, at: *mut u64) -> u32;
+    fn ropeinstant_graded_to_pixel(input: *const u8, input_len: usize, output: *mut u8, output_len: usize, at: *mut u64) -> u32;
+    fn ropeinstant_graded_to_scene(input: *const u8, input_len: usize, output: *mut u8, output_len: usize, at: *mut u64) -> u32;
     fn ropeinstant_top_code(width: u8) -> u16;
 }
 
@@ -43,6 +45,14 @@ pub fn aces_to_half(input: &[u8], output: &mut [u8]) -> Answer {
 
 pub fn half_to_aces(input: &[u8], output: &mut [u8]) -> Answer {
     call(ropeinstant_half_to_aces, input, output)
+}
+
+pub fn graded_to_pixel(input: &[u8], output: &mut [u8]) -> Answer {
+    call(ropeinstant_graded_to_pixel, input, output)
+}
+
+pub fn graded_to_scene(input: &[u8], output: &mut [u8]) -> Answer {
+    call(ropeinstant_graded_to_scene, input, output)
 }
 
 /// The top code of a width of 1 to 16 bits; 0 for any other number.
@@ -72,16 +82,48 @@ mod tests {
     const PIXEL: [u8; 10] = [3, 12, 0x20, 3, 100, 0, 0, 0, 0, 0];
     const ACES: [i64; 3] = [-238167, -283566, -289928];
 
+    /// A record of three numbers.
+    fn numbers(setting: &[u8], numbers: [i64; 3]) -> Vec<u8> {
+        [setting, &numbers.map(i64::to_le_bytes).concat()].concat()
+    }
+
     #[test]
     fn the_listed_pixel_and_back() {
         let mut aces = [0; kinds::ACES.size()];
         assert_eq!(pixel_to_aces(&PIXEL, &mut aces), Ok(1));
-        let mut listed = PIXEL[..4].to_vec();
-        ACES.iter().for_each(|number| listed.extend(number.to_le_bytes()));
-        assert_eq!(aces, listed[..]);
-        let mut pixel = [0; kinds::PIXEL.size()];
-        assert_eq!(aces_to_pixel(&aces, &mut pixel), Ok(1));
-        assert_eq!(pixel, PIXEL);
+        assert_eq!(aces, numbers(&PIXEL[..4], ACES)[..]);
+        for back in [aces_to_pixel, graded_to_pixel] {
+            let mut pixel = [0; kinds::PIXEL.size()];
+            assert_eq!(back(&aces, &mut pixel), Ok(1));
+            assert_eq!(pixel, PIXEL);
+        }
+    }
+
+    #[test]
+    fn the_graded_road() {
+        let (limit, mut scene, mut pixel) = (1_i64 << 38, [0; kinds::SCENE.size()], [0; kinds::PIXEL.size()]);
+        // One unit off, which no pixel gives: of the scene numbers one is a unit off, and the codes are the same.
+        let off = numbers(&PIXEL[..4], [ACES[0], ACES[1], ACES[2] + 1]);
+        assert_eq!((graded_to_scene(&off, &mut scene), graded_to_pixel(&off, &mut pixel)), (Ok(1), Ok(1)));
+        assert_eq!((kinds::SCENE.numbers(&scene), pixel), ([-213758, -290085, -290084], PIXEL));
+        // The ends pass, and are clipped to the first and the top code.
+        let ends = numbers(&[4, 140, 0, 0], [limit, -limit, limit]);
+        assert_eq!((graded_to_scene(&ends, &mut scene), graded_to_pixel(&ends, &mut pixel)), (Ok(1), Ok(1)));
+        assert_eq!(kinds::SCENE.numbers(&scene), [379904264315, -270929957338, 274464757903]);
+        assert_eq!(kinds::PIXEL.numbers(&pixel), [3760, 256, 3760]);
+        let refused = |number| Err(Refusal { number, record: 0 });
+        for (setting, triple, number) in [
+            ([4, 140, 0, 0], [limit, -limit, limit + 1], 14),
+            ([3, 12, 0x20, 3], [-limit - 1, 0, 0], 14),
+            ([3, 12, 0x20, 3], [0, i64::MIN, i64::MAX], 14),
+            ([2, 12, 0x20, 3], [limit + 1, 0, 0], 12),
+            ([2, 12, 0, 0], [limit + 1, 0, 0], 5),
+            ([2, 16, 0x20, 3], [limit + 1, 0, 0], 4),
+            ([5, 12, 0x20, 3], [limit + 1, 0, 0], 3),
+        ] {
+            let record = numbers(&setting, triple);
+            assert_eq!((graded_to_scene(&record, &mut scene), graded_to_pixel(&record, &mut pixel)), (refused(number), refused(number)));
+        }
     }
 
     #[test]
@@ -164,14 +206,14 @@ mod tests {
     #[test]
     fn halves() {
         let record = |setting: [u8; 4], halves: [u16; 3]| [&setting[..], &halves.map(u16::to_le_bytes).concat()].concat();
-        let of = |numbers: [i64; 3]| [&PIXEL[..4], &numbers.map(i64::to_le_bytes).concat()].concat();
+        let of = |triple: [i64; 3]| numbers(&PIXEL[..4], triple);
         let (mut half, mut aces) = ([0; kinds::HALF.size()], [0; kinds::ACES.size()]);
-        for (numbers, halves) in [
+        for (triple, halves) in [
             ([2049, 2051, 4095], [0x800, 0x802, 0xc00]),
             ([i64::MIN, i64::MAX, 0], [0xfbff, 0x7bff, 0]),
             ([-1, 65504 << 24, -(1 << 24)], [0x8001, 0x7bff, 0xbc00]),
         ] {
-            assert_eq!(aces_to_half(&of(numbers), &mut half), Ok(1));
+            assert_eq!(aces_to_half(&of(triple), &mut half), Ok(1));
             assert_eq!(half, record([3, 12, 0x20, 3], halves)[..]);
         }
         assert_eq!(half_to_aces(&half, &mut aces), Ok(1));

@@ -6,6 +6,7 @@ use crate::kinds::{Kind, CHANNELS};
 use crate::settings::{listed, Setting, CURVES};
 
 const LIMIT: i64 = 1 << 40; // of a scene number to encode
+const GRADED_LIMIT: i64 = 1 << 38; // of a graded ACES number
 
 pub struct Refusal {
     pub number: u32,
@@ -15,7 +16,7 @@ pub struct Refusal {
 }
 
 /// In the order in which they are tried. 2, an output that is too short, is not here: the command makes room for every record.
-pub const REFUSALS: [Refusal; 11] = [
+pub const REFUSALS: [Refusal; 12] = [
     Refusal { number: 1, when: "the input is not a whole number of records", cause: |_, _, _| String::new() },
     Refusal { number: 3, when: "the curve is not 2, 3 or 4", cause: curve },
     Refusal { number: 4, when: "the width is not one of the curve's", cause: width },
@@ -26,6 +27,7 @@ pub const REFUSALS: [Refusal; 11] = [
     Refusal { number: 6, when: "a code is above the top code of its width", cause: code_above_top },
     Refusal { number: 7, when: "a scene number to encode is outside -2^40 to 2^40", cause: scene_out_of_range },
     Refusal { number: 8, when: "a half float is infinite or not a number", cause: half_not_finite },
+    Refusal { number: 14, when: "a graded ACES number is outside -2^38 to 2^38", cause: graded_out_of_range },
     Refusal { number: 10, when: "no pixel of the setting has these ACES numbers", cause: no_pixel },
 ];
 
@@ -120,9 +122,18 @@ fn code_above_top(kind: &Kind, setting: &Setting, record: &[u8]) -> String {
 }
 
 fn scene_out_of_range(kind: &Kind, _: &Setting, record: &[u8]) -> String {
-    match CHANNELS.iter().zip(kind.numbers(record)).find(|(_, number)| !(-LIMIT..=LIMIT).contains(number)) {
-        Some((channel, number)) => format!("{} scene number {} is outside {} to {}", channel, number, -LIMIT, LIMIT),
-        None => "a scene number is out of range".to_string(),
+    outside(LIMIT, "scene number", kind, record)
+}
+
+fn graded_out_of_range(kind: &Kind, _: &Setting, record: &[u8]) -> String {
+    outside(GRADED_LIMIT, "ACES number", kind, record)
+}
+
+/// The first number that is beyond a limit, above or below 0.
+fn outside(limit: i64, called: &str, kind: &Kind, record: &[u8]) -> String {
+    match CHANNELS.iter().zip(kind.numbers(record)).find(|(_, number)| !(-limit..=limit).contains(number)) {
+        Some((channel, number)) => format!("{} {} {} is outside {} to {}", channel, called, number, -limit, limit),
+        None => "a number is out of range".to_string(),
     }
 }
 
@@ -143,7 +154,7 @@ fn no_pixel(kind: &Kind, setting: &Setting, record: &[u8]) -> String {
 mod tests {
     use super::*;
     use crate::conversion::CONVERSIONS;
-    use crate::kinds::{ACES, HALF, PIXEL};
+    use crate::kinds::{ACES, HALF, PIXEL, SCENE};
 
     fn words(number: u32, index: u64, setting: (u8, u8, u16), codes: [u16; 3]) -> String {
         words_of(&PIXEL, number, index, setting, codes)
@@ -180,6 +191,24 @@ mod tests {
         assert_eq!(words([0x7bff, 0x7c00, 0xffff]), "record 3 (byte 30): green half 0x7c00 is plus infinity");
         assert_eq!(words([0xfc00, 0, 0]), "record 3 (byte 30): red half 0xfc00 is minus infinity");
         assert_eq!(words([0, 0, 0x7c01]), "record 3 (byte 30): blue half 0x7c01 is not a number");
+    }
+
+    #[test]
+    fn the_first_number_outside_its_limits() {
+        let words = |kind, number, numbers: [i64; 3]| {
+            let record = [&[3, 12, 0x20, 3][..], &numbers.map(i64::to_le_bytes).concat()].concat();
+            Refused::record(kind, number, 2, &record).words
+        };
+        let graded = |numbers| words(&ACES, 14, numbers);
+        let limits = "is outside -274877906944 to 274877906944";
+        assert_eq!(graded([1 << 38, -(1 << 38) - 1, i64::MAX]), format!("record 2 (byte 56): green ACES number -274877906945 {}", limits));
+        assert_eq!(graded([i64::MIN, 1 << 40, 0]), format!("record 2 (byte 56): red ACES number -9223372036854775808 {}", limits));
+        assert_eq!(graded([0, -(1 << 38), (1 << 38) + 1]), format!("record 2 (byte 56): blue ACES number 274877906945 {}", limits));
+        let limits = "is outside -1099511627776 to 1099511627776";
+        assert_eq!(
+            words(&SCENE, 7, [1 << 40, (1 << 40) + 1, 0]),
+            format!("record 2 (byte 56): green scene number 1099511627777 {}", limits)
+        );
     }
 
     #[test]
