@@ -1,7 +1,8 @@
 //! The contest of one setting: the contestants' times, the shares of pixels that come back a code off, and how far ACES numbers are off.
 use crate::imath::Imath;
 use crate::library::{
-    convert, ropeinstant_aces_to_half, ropeinstant_aces_to_pixel, ropeinstant_half_to_aces, ropeinstant_pixel_to_aces, Function,
+    convert, ropeinstant_aces_to_half, ropeinstant_aces_to_pixel, ropeinstant_graded_to_pixel, ropeinstant_half_to_aces,
+    ropeinstant_pixel_to_aces, Function,
 };
 use crate::ocio::Ocio;
 use crate::plain::{self, Codes, ACES, HALVES, PIXEL, UNIT};
@@ -29,11 +30,22 @@ pub struct Setting {
 /// Nanoseconds a pixel, of Ropeinstant line by line and in one strip, plain f64, another library and a copy.
 pub type Times = [Option<f64>; 5];
 
-/// A strip of random pixels of a setting, its ACES strip and half strip, and the least times seen.
+/// The times of each conversion.
+#[derive(Default)]
+pub struct AllTimes {
+    pub to_aces: Times,
+    pub to_camera: Times,
+    pub graded_to_camera: Times,
+    pub to_half: Times,
+    pub from_half: Times,
+}
+
+/// A strip of random pixels of a setting, its ACES strip, the same graded, its half strip, and the least times seen.
 pub struct Contest {
     pub setting: Setting,
     strip: Vec<u8>,
     aces: Vec<u8>,
+    graded: Vec<u8>,
     halves: Vec<u8>,
     ocio: Option<Ocio>,
     imath: Option<Imath>,
@@ -41,10 +53,7 @@ pub struct Contest {
     rgb: Vec<f32>,
     values: Vec<f32>,
     bits: Vec<u16>,
-    pub to_aces: Times,
-    pub to_camera: Times,
-    pub to_half: Times,
-    pub from_half: Times,
+    pub times: AllTimes,
 }
 
 /// What the converted pixels of a strip are beside Ropeinstant's.
@@ -57,6 +66,8 @@ pub struct Comparison {
     pub distances: [Option<Distance>; 3],
     /// The share of halves by Imath, of ACES numbers in float32, that are not Ropeinstant's.
     pub halves_off: Option<f64>,
+    /// The shares of graded pixels whose codes by plain f64, and by OpenColorIO from float32, are not Ropeinstant's.
+    pub graded_off: [Option<f64>; 2],
 }
 
 /// How far ACES numbers are from Ropeinstant's, in units.
@@ -72,19 +83,17 @@ impl Contest {
         let ocio = Ocio::new(&setting);
         let signals = signals(&setting, &strip);
         let rgb = signals.clone();
-        let halves = converted(ropeinstant_aces_to_half, &aces, HALVES * pixels);
-        let values = numbers(&aces).iter().map(|number| (number / UNIT) as f32).collect();
-        let bits = vec![0; 3 * pixels];
-        let (to_aces, to_camera, to_half, from_half) = ([None; 5], [None; 5], [None; 5], [None; 5]);
-        let imath = Imath::installed();
-        Contest { setting, strip, aces, halves, ocio, imath, signals, rgb, values, bits, to_aces, to_camera, to_half, from_half }
+        let (graded, halves) = (plain::warmer(&aces), converted(ropeinstant_aces_to_half, &aces, HALVES * pixels));
+        let (values, bits) = (in_float32(&aces), vec![0; 3 * pixels]);
+        let (imath, times) = (Imath::installed(), AllTimes::default());
+        Contest { setting, strip, aces, graded, halves, ocio, imath, signals, rgb, values, bits, times }
     }
 
     /// Times each contestant once, on the first pixels of the strip.
     pub fn round(&mut self, pixels: usize) {
         let (strip, aces) = (&self.strip[..PIXEL * pixels], &self.aces[..ACES * pixels]);
         let (mut made, mut returned) = (aces.to_vec(), strip.to_vec());
-        let (to, back) = (&mut self.to_aces, &mut self.to_camera);
+        let (to, back) = (&mut self.times.to_aces, &mut self.times.to_camera);
         least(&mut to[0], pixels, || convert_lines(ropeinstant_pixel_to_aces, strip, PIXEL, &mut made, ACES));
         least(&mut to[1], pixels, || convert(ropeinstant_pixel_to_aces, strip, &mut made));
         assert!(made == aces);
@@ -102,12 +111,13 @@ impl Contest {
             least(&mut back[3], pixels, || ocio.to_camera(rgb));
         }
         self.round_of_halves(pixels);
+        self.round_of_graded(pixels);
     }
 
     fn round_of_halves(&mut self, pixels: usize) {
         let (aces, halves) = (&self.aces[..ACES * pixels], &self.halves[..HALVES * pixels]);
         let (mut made, mut read) = (halves.to_vec(), aces.to_vec());
-        let (to, from) = (&mut self.to_half, &mut self.from_half);
+        let (to, from) = (&mut self.times.to_half, &mut self.times.from_half);
         least(&mut to[0], pixels, || convert_lines(ropeinstant_aces_to_half, aces, ACES, &mut made, HALVES));
         least(&mut to[1], pixels, || convert(ropeinstant_aces_to_half, aces, &mut made));
         least(&mut from[0], pixels, || convert_lines(ropeinstant_half_to_aces, &made, HALVES, &mut read, ACES));
@@ -123,12 +133,37 @@ impl Contest {
         }
     }
 
+    fn round_of_graded(&mut self, pixels: usize) {
+        let (strip, graded) = (&self.strip[..PIXEL * pixels], &self.graded[..ACES * pixels]);
+        let (mut made, mut whole, mut copied) = (strip.to_vec(), strip.to_vec(), graded.to_vec());
+        let times = &mut self.times.graded_to_camera;
+        least(&mut times[0], pixels, || convert_lines(ropeinstant_graded_to_pixel, graded, ACES, &mut made, PIXEL));
+        least(&mut times[1], pixels, || convert(ropeinstant_graded_to_pixel, graded, &mut whole));
+        assert!(made == whole);
+        least(&mut times[2], pixels, || assert!(plain::to_camera(graded, &mut made)));
+        least(&mut times[4], pixels, || copied.copy_from_slice(graded));
+        if let Some(ocio) = &self.ocio {
+            let mut rgb = in_float32(graded);
+            least(&mut times[3], pixels, || ocio.to_camera(&mut rgb));
+        }
+    }
+
+    /// The shares of graded pixels whose codes by others are not Ropeinstant's.
+    fn graded_off(&self) -> [Option<f64>; 2] {
+        let own = converted(ropeinstant_graded_to_pixel, &self.graded, self.strip.len());
+        let mut made = own.clone();
+        assert!(plain::to_camera(&self.graded, &mut made));
+        let ocio = self.ocio.as_ref().map(|ocio| codes_off(&self.setting, &own, ocio, in_float32(&self.graded)));
+        [Some(differing(&own, &made, PIXEL)), ocio]
+    }
+
     pub fn compared(&self) -> Comparison {
         let (strip, aces) = (&self.strip, &self.aces);
         let (mut off, mut distances) = ([None; 5], [None, None, None]);
         let (mut made, mut returned) = (vec![0; aces.len()], vec![0; strip.len()]);
         convert(ropeinstant_aces_to_pixel, aces, &mut returned);
         off[0] = Some(differing(strip, &returned, PIXEL));
+        assert!(converted(ropeinstant_graded_to_pixel, aces, strip.len()) == *strip);
         assert!(plain::to_aces(strip, &mut made) && plain::to_camera(&made, &mut returned));
         off[1] = Some(differing(strip, &returned, PIXEL));
         assert!(plain::to_camera_of(&made, &mut returned, half));
@@ -149,7 +184,7 @@ impl Contest {
             let own = self.halves.chunks_exact(HALVES).flat_map(plain::codes_of);
             own.zip(&bits).filter(|(own, other)| own != *other).count() as f64 / bits.len() as f64
         });
-        Comparison { off, differing: differing(aces, &made, ACES), distances, halves_off }
+        Comparison { off, differing: differing(aces, &made, ACES), distances, halves_off, graded_off: self.graded_off() }
     }
 }
 
@@ -216,6 +251,11 @@ fn differing(a: &[u8], b: &[u8], record: usize) -> f64 {
 /// The numbers of ACES records, in units.
 fn numbers(aces: &[u8]) -> Vec<f64> {
     aces.chunks_exact(ACES).flat_map(plain::numbers_of).collect()
+}
+
+/// The same as values in float32.
+fn in_float32(aces: &[u8]) -> Vec<f32> {
+    numbers(aces).iter().map(|number| (number / UNIT) as f32).collect()
 }
 
 fn in_units(values: &[f32]) -> Vec<f64> {

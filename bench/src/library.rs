@@ -7,6 +7,7 @@ extern "C" {
     pub fn ropeinstant_aces_to_pixel(input: *const u8, input_len: usize, output: *mut u8, output_len: usize, at: *mut u64) -> u32;
     pub fn ropeinstant_aces_to_half(input: *const u8, input_len: usize, output: *mut u8, output_len: usize, at: *mut u64) -> u32;
     pub fn ropeinstant_half_to_aces(input: *const u8, input_len: usize, output: *mut u8, output_len: usize, at: *mut u64) -> u32;
+    pub fn ropeinstant_graded_to_pixel(input: *const u8, input_len: usize, output: *mut u8, output_len: usize, at: *mut u64) -> u32;
     fn ropeinstant_top_code(width: u8) -> u16;
 }
 

@@ -5,7 +5,7 @@ mod library;
 mod ocio;
 mod plain;
 
-use contest::{Comparison, Contest, Distance, Setting, Times, LINE};
+use contest::{AllTimes, Comparison, Contest, Distance, Setting, Times, LINE};
 use imath::Imath;
 use ocio::Ocio;
 
@@ -32,10 +32,11 @@ fn main() {
         pixels, repetitions, LINE
     );
     println!("OpenColorIO: {}. Imath: {}.\n", Ocio::version(), Imath::version());
-    print_times("pixel to ACES", "OpenColorIO", &contests, |contest| &contest.to_aces);
-    print_times("ACES to pixel", "OpenColorIO", &contests, |contest| &contest.to_camera);
-    print_times("ACES to half", "Imath", &contests, |contest| &contest.to_half);
-    print_times("half to ACES", "Imath", &contests, |contest| &contest.from_half);
+    print_times("pixel to ACES", "OpenColorIO", &contests, |times| &times.to_aces);
+    print_times("ACES to pixel", "OpenColorIO", &contests, |times| &times.to_camera);
+    print_times("graded to pixel", "OpenColorIO", &contests, |times| &times.graded_to_camera);
+    print_times("ACES to half", "Imath", &contests, |times| &times.to_half);
+    print_times("half to ACES", "Imath", &contests, |times| &times.from_half);
     let compared: Vec<Comparison> = contests.iter().map(Contest::compared).collect();
     print_shares(&contests, &compared);
     print_distances(&contests, &compared);
@@ -46,11 +47,11 @@ fn main() {
     println!("and back; reading and writing records is not in its time.");
 }
 
-fn print_times(name: &str, other: &str, contests: &[Contest], of: impl Fn(&Contest) -> &Times) {
+fn print_times(name: &str, other: &str, contests: &[Contest], of: impl Fn(&AllTimes) -> &Times) {
     println!("| {:<25} | Ropeinstant |    one strip |    plain f64 | {:>12} | copy of 28 bytes |", name, other);
     println!("|---------------------------|------------:|-------------:|-------------:|-------------:|-----------------:|");
     for contest in contests {
-        let times = of(contest);
+        let times = of(&contest.times);
         let own = times[0].unwrap();
         let beside = [1, 2, 3, 4].map(|k| times[k].map_or("-".to_string(), |time| format!("{:.1} ({:.2})", time, time / own)));
         let [strip, plain, other, copy] = beside;
@@ -67,10 +68,18 @@ fn print_shares(contests: &[Contest], compared: &[Comparison]) {
         let off = with.off.map(|share| share.map_or("-".to_string(), percent));
         println!("| {:<25} | {:>11} | {:>9} | {:>12} | {:>20} | {:>12} |", title(&contest.setting), off[0], off[1], off[2], off[3], off[4]);
     }
-    let differing: Vec<String> = compared.iter().map(|with| percent(with.differing)).collect();
-    println!("\nPixels whose ACES numbers by plain f64 are not Ropeinstant's, in the same order: {}.", differing.join(", "));
-    let halves: Vec<String> = compared.iter().map(|with| with.halves_off.map_or("-".to_string(), percent)).collect();
-    println!("Halves by Imath, of ACES numbers in float32, that are not the nearest: {}.\n", halves.join(", "));
+    let differing = listed(compared, |with| Some(with.differing));
+    println!("\nPixels whose ACES numbers by plain f64 are not Ropeinstant's, in the same order: {}.", differing);
+    println!("Halves by Imath, of ACES numbers in float32, that are not the nearest: {}.", listed(compared, |with| with.halves_off));
+    let [plain, ocio] = [0, 1].map(|k| listed(compared, |with| with.graded_off[k]));
+    println!("Graded pixels (an eighth more red, an eighth less blue) whose codes are not Ropeinstant's: by plain f64 {};", plain);
+    println!("by OpenColorIO, from float32, {}.\n", ocio);
+}
+
+/// A share of each setting.
+fn listed(compared: &[Comparison], of: impl Fn(&Comparison) -> Option<f64>) -> String {
+    let shares: Vec<String> = compared.iter().map(|with| of(with).map_or("-".to_string(), percent)).collect();
+    shares.join(", ")
 }
 
 fn print_distances(contests: &[Contest], compared: &[Comparison]) {
