@@ -225,7 +225,7 @@ module _ (s : Setting) (v : ValidForAces s) where
   -- of given ACES numbers a candidate may be encoded
   candidate-small : (x y z : ℤ) → InReach x y z → (k : ℕ) → k < 3 → natAbs (candidate s k x y z) ≤ 2 ^ 40
   candidate-small x y z h k l =
-      row-size (inverseRows s) (2 ^ 39) (lit< tt) k heavyBack (reach) (2 ^ 40) (three x y z)
+      row-size (inverseRows s) (2 ^ 39) (lit< tt) k heavyBack reach (2 ^ 40) (three x y z)
       (light (inverseRows s) (matrixOf s .rows) (halfScale c) (2 ^ 39) (slackOf c) (3 * largest) heavyBack farthest k (takes-back k l))
       (near-zero h) (lit< tt)
 

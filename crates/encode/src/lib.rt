@@ -34,12 +34,7 @@ pub enum Encoding {
 pub fn check_scene(x: Scene) -> Check
     ensures { λ r. ⌜ r ≡ sceneCheck (x .0) ⌝ }
 {
-    let number = x.0;
-    if -LIMIT <= number && number <= LIMIT {
-        Check::Passed
-    } else {
-        Check::Refused(Refusal::SceneOutOfRange)
-    }
+    setting::check_between(-LIMIT, x.0, LIMIT, Refusal::SceneOutOfRange)
 }
 
 // The step of a scene number, of a setting with this last step.

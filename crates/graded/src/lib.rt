@@ -28,12 +28,7 @@ pub enum Graded {
 fn check_number(a: Aces) -> Check
     ensures { λ r. ⌜ r ≡ gradedCheck (a .0) ⌝ }
 {
-    let number = a.0;
-    if -LIMIT <= number && number <= LIMIT {
-        Check::Passed
-    } else {
-        Check::Refused(Refusal::GradedOutOfRange)
-    }
+    setting::check_between(-LIMIT, a.0, LIMIT, Refusal::GradedOutOfRange)
 }
 
 // Of three numbers: red, then green, then blue.

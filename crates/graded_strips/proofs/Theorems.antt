@@ -19,7 +19,8 @@ use Rattle.aces_inverse.specs.Inverse.{candidates}
 use Rattle.record_conversion.specs.Conversions.{sceneToPixel, acesToPixel, gradedToScene, gradedToPixel}
 use Rattle.strip.proofs.Join.{whole-answer}
 use Rattle.strip.proofs.Back.{done-whole, whole-done, one-after-other}
-use Rattle.strip.proofs.Same.{converted-exactly, same-converted}
+use Rattle.strip.proofs.Exactly.{converted-exactly}
+use Rattle.strip.proofs.Same.{same-converted}
 use Rattle.promise.specs.Each.{ConvertedEach}
 use Rattle.promise.specs.Words.{Accepted, acesStrip}
 use Rattle.promise.proofs.Each.{each-converted}

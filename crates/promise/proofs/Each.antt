@@ -8,7 +8,7 @@ use Rattle.rules.specs.declared.Answer.{Answer}
 use Rattle.rules.specs.declared.Check.the-variants.{Passed}
 use Rattle.rules.specs.Strip.{Conversion, recordCheck, recordAt, answerOf, outputAfter}
 use Rattle.rules.proofs.Results.{done-answer}
-use Rattle.strip.proofs.Same.{converted-exactly}
+use Rattle.strip.proofs.Exactly.{converted-exactly}
 use Rattle.promise.specs.Each.{ConvertedEach}
 use Rattle.promise.proofs.Strips.{written-at}
 

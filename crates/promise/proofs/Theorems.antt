@@ -44,7 +44,7 @@ use Rattle.strip_passes.proofs.Cut.{length-at}
 use Rattle.strip.proofs.First.{first-answered, answered-first}
 use Rattle.strip.proofs.Join.{whole-answer}
 use Rattle.strip.proofs.Back as back
-use Rattle.strip.proofs.Same.{converted-exactly}
+use Rattle.strip.proofs.Exactly.{converted-exactly}
 use Rattle.way_back.specs.Back.{pixelFor, wayBackResult}
 use Rattle.way_back.proofs.Theorems.{found-gives, one-pixel, nothing-gives}
 use Rattle.promise.specs.Words.{Accepted, HoldsPixel, IsGrey, acesStrip, numberIn, stepIn, NearExact, Without, OnlyPixel, SomeWithout, FirstWithout, refusalOf, refusedAt, ReportsFirst, WithoutPixel, GivesOnly}

@@ -5,6 +5,7 @@ use mathlib.Core.Path.{_≡_, refl, sym, subst}
 use Prim.Native.Nat.{ℕ, zero, suc, _^_, _≤_}
 use native.Mathlib.Omega.{arith}
 use lib.Dec.{T}
+use lib.Ieee.Bits.{is-true}
 use lib.IntN.{ℤ, pos, natAbs}
 use lib.Signed.{leZ}
 use Rattle.whole.specs.Parts.{minus, up, dn}
@@ -17,10 +18,6 @@ use Rattle.rules.specs.Encoding.{sceneCheck}
 use Rattle.rules.specs.Refusal.{refuseUnless}
 use Rattle.rules.proofs.Settings.{passed-only}
 
-yes : (b : Bool) → T b → b ≡ true
-yes true t = refl
-yes false t = absurd t
-
 -- minus the limit
 below : (limit : ℕ) → (up (minus limit) ≡ 0) × (dn (minus limit) ≡ limit)
 below zero = (refl, refl)
@@ -30,8 +27,8 @@ module _ (limit : ℕ) (x : ℤ) where
   pub small-between : natAbs x ≤ limit → between limit x ≡ true
   small-between h =
       let m = below limit in
-      let low = yes (leZ (minus limit) x) (leZ-of (at (minus limit)) (at x) (omega (arith, abs-is x, m .0, m .1)) .le) in
-      let high = yes (leZ x (pos limit)) (leZ-of (at x) (at (pos limit)) (omega (arith, abs-is x)) .le) in
+      let low = is-true (leZ (minus limit) x) (leZ-of (at (minus limit)) (at x) (omega (arith, abs-is x, m .0, m .1)) .le) in
+      let high = is-true (leZ x (pos limit)) (leZ-of (at x) (at (pos limit)) (omega (arith, abs-is x)) .le) in
       rw (low, high)
 
   pub between-small : between limit x ≡ true → natAbs x ≤ limit
@@ -46,7 +43,7 @@ module _ (limit : ℕ) (x : ℤ) where
 
 -- what a check by a test lets pass
 pub test-passed : (b : Bool) (why : Refusal) → refuseUnless b why ≡ Passed → b ≡ true
-test-passed b why e = yes b (passed-only b why e)
+test-passed b why e = is-true b (passed-only b why e)
 
 -- a number that may be encoded
 pub scene-passes : (x : ℤ) → natAbs x ≤ 2 ^ 40 → sceneCheck x ≡ Passed

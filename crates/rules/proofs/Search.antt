@@ -9,6 +9,7 @@ use native.Mathlib.Nat.{le-refl}
 use native.Mathlib.Omega.{arith}
 use borrow.Author.Tests.{leb-true, leb-false}
 use lib.Dec.{T, leb}
+use lib.Ieee.Bits.{is-true}
 use lib.IntN.{ℤ, pos, _+ℤ_}
 use lib.Signed.{leZ}
 use Rattle.whole.proofs.Reflect.{at, add, leN-of, leZ-of}
@@ -27,10 +28,6 @@ use Rattle.rules.specs.declared.Check.the-variants.{Passed}
 use Rattle.rules.proofs.Codes.{code-of-step, code-passed, code-passes}
 
 -- ---- numbers at most e apart
-yes : (b : Bool) → T b → b ≡ true
-yes true t = refl
-yes false t = absurd t
-
 both : (b c : Bool) → choose b c false ≡ true → (b ≡ true) × (c ≡ true)
 both true true e = (refl, refl)
 both true false e = absurd (subst T (sym e) tt)
@@ -46,8 +43,8 @@ within-near e x y t =
 
 pub near-within : (e : ℕ) (x y : ℤ) → Near x y e → within e x y ≡ true
 near-within e x y n =
-    let h = yes (leZ x (y +ℤ pos e)) (leZ-of (at x) (add (at y) (at (pos e))) (omega (arith, n .high)) .le) in
-    let l = yes (leZ y (x +ℤ pos e)) (leZ-of (at y) (add (at x) (at (pos e))) (omega (arith, n .low)) .le) in
+    let h = is-true (leZ x (y +ℤ pos e)) (leZ-of (at x) (add (at y) (at (pos e))) (omega (arith, n .high)) .le) in
+    let l = is-true (leZ y (x +ℤ pos e)) (leZ-of (at y) (add (at x) (at (pos e))) (omega (arith, n .low)) .le) in
     rw (h, l)
 
 -- at distance 0 they are equal

@@ -1,6 +1,9 @@
-// The checks of a setting, and the numbers of the refusals.
+// The checks of a setting, the check of a number between two ends, and the numbers of the refusals.
 ghost use mathlib.Core.Path.{_≡_};
+ghost use mathlib.Core.Bool.{false};
 ghost use Prim.Native.Nat.{_<_};
+ghost use lib.Signed.{leZ};
+ghost use Rattle.rules.specs.Choice.{choose};
 ghost use Rattle.rules.specs.Refusal.{numberOf, then, refuseUnless};
 ghost use Rattle.rules.specs.declared.Refusal.the-variants.{UnknownWidth, UnknownEi, NoMatrix};
 ghost use Rattle.rules.specs.Setting.{named, hasMatrix, settingCheck, acesCheck};
@@ -69,6 +72,17 @@ fn check_matrix(s: Setting) -> Check
         Check::Passed
     } else {
         Check::Refused(Refusal::NoMatrix)
+    }
+}
+
+// A number from one end to the other, which are among them, or the refusal.
+pub fn check_between(low: i64, x: i64, high: i64, cause: Refusal) -> Check
+    ensures { λ r. ⌜ r ≡ refuseUnless (choose (leZ low x) (leZ x high) false) cause ⌝ }
+{
+    if low <= x && x <= high {
+        Check::Passed
+    } else {
+        Check::Refused(cause)
     }
 }
 

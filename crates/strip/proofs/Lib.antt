@@ -4,4 +4,5 @@ pub mod Join
 pub mod Back
 pub mod ChannelsBack
 pub mod Same
+pub mod Exactly
 pub mod Theorems

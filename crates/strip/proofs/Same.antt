@@ -1,21 +1,14 @@
 -- Two conversions of the same records, of which the second gives what the first gives for each record that the first does not refuse: then it does
--- so with a strip. And a strip of whole records is converted exactly where each of them passes.
+-- so with a strip.
 -- Assumes nothing.
-use mathlib.Core.Logic.{_↔_}
-use mathlib.Core.Path.{_≡_, refl, ap, _∙_}
+use mathlib.Core.Path.{_≡_, refl}
 use mathlib.Core.List.{List, [], _∷_}
-use Prim.Native.Nat.{ℕ, suc, _*_, _≤_, _<_}
-use native.Mathlib.Nat.{zero-add}
-use lib.ListN.{length}
+use Prim.Native.Nat.{ℕ, suc, _<_}
 use Rattle.rules.specs.declared.Answer.the-variants.{Done}
 use Rattle.rules.specs.declared.Check.the-variants.{Passed}
-use Rattle.rules.specs.Result.{done, stripResult}
-use Rattle.rules.specs.Strip.{Conversion, recordCheck, records, recordAt, written, scan, scanOf, answerOf, outputAfter, resultOf}
-use Rattle.rules.proofs.Results.{done-answer}
-use Rattle.strip_passes.proofs.FirstPass.{go-on, scan-passes}
+use Rattle.rules.specs.Strip.{Conversion, recordCheck, records, written, scan, answerOf, outputAfter}
+use Rattle.strip_passes.proofs.FirstPass.{go-on}
 use Rattle.strip.proofs.Back.{done-whole, whole-done}
-use Rattle.strip.proofs.First.{all-done}
-use Rattle.strip.proofs.Join.{whole-answer}
 
 -- d for records of the sizes of c
 abbrev pub sized : (c d : Conversion) → Conversion
@@ -39,15 +32,3 @@ module _ (c d : Conversion) (same : (r : List ℕ) → recordCheck c r ≡ Passe
       let w = done-whole c input output n e in
       let s = same-records (records (c .from) n input) 0 n (w .passes) in
       (whole-done (sized c d) input output n p (record { long = w .long; room = w .room; passes = s .0 }), rw (s .1))
-
--- ---- a strip of n whole records, with room
-module _ (c : Conversion) (p : 0 < c .from) (input output : List ℕ) (n : ℕ) (l : length input ≡ n * c .from) (room : n * c .to ≤ length output) where
-  scanned : answerOf c input output ≡ scanOf c n input
-  scanned = whole-answer c input output n p l room
-
-  -- IT IS CONVERTED exactly where each record passes
-  pub converted-exactly : (resultOf c input output ≡ done (n ∷ [])) ↔ ((k : ℕ) → k < n → recordCheck c (recordAt (c .from) k input) ≡ Passed)
-  converted-exactly = (
-    λ e k i. scan-passes (recordCheck c) (c .from) n input 0 n (done-answer (answerOf c input output) n e ∙ scanned) k i,
-    λ each. ap stripResult (scanned ∙ all-done (recordCheck c) (c .from) n input 0 each ∙ ap Done (zero-add n)),
-  )

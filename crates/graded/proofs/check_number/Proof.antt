@@ -1,15 +1,8 @@
--- `check_number` meets its contract: both ends are those of the definition.
+-- `check_number` meets its contract: the ends are those of the definition.
 -- Assumes nothing.
-use mathlib.Core.Bool.{true}
-use mathlib.Core.Logic.{⊎-elim}
-use mathlib.Core.Path.{_≡_}
-use Prim.Native.Nat.{_^_}
 use borrow.Author.Needs.{needs}
-use lib.IntN.{pos}
-use lib.Signed.{leZ}
 use mir.Syntax.{w64}
 use mir.Val.{SFits}
-use Rattle.whole.specs.Parts.{minus}
 use Rattle.whole.proofs.Words.{read-back}
 use Rattle.rules.specs.Graded.{gradedCheck}
 use Rattle.graded.proofs.check_number.Statement.{statement}
@@ -21,17 +14,7 @@ fits c = record { sfits = c .struct-told .given .0 .1 }
 
 returns : tie.Need-returns
 unfolding gradedCheck
-returns c =
-    let low : leZ (minus (2 ^ 38)) (c .before .before .before .args .a .0) ≡ true = rw (read-back (fits (c .before .before))) at (c .before .if1 .taken) in
-    let high : leZ (c .before .before .before .args .a .0) (pos (2 ^ 38)) ≡ true = rw (read-back (fits (c .before .before))) at (c .if2 .taken) in
-    rw (low, high)
-
-returns-2 : tie.Need-returns-2
-unfolding gradedCheck
-returns-2 c =
-    ⊎-elim (λ w. rw (rw (read-back (fits (c .before))) at (w .0 .taken), rw (read-back (fits (c .before))) at (w .1 .left)))
-    (λ w. rw (rw (read-back (fits (c .before))) at (w .left)))
-    (c .if1 .came)
+returns c = rw (read-back (fits (c .before))) at (c .check-between .ensures)
 
 pub check-number-spec : {M : Type 1} → statement M
-check-number-spec = tie.close (tie.spec (λ c. search needs) returns returns-2)
+check-number-spec = tie.close (tie.spec (λ c. search needs) (λ c κs. search needs) returns)
