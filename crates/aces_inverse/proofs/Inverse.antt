@@ -24,7 +24,7 @@ use Rattle.rules.proofs.Between.{scene-passes}
 use Rattle.rules.proofs.Settings.{for-aces}
 use Rattle.rules.specs.Matrix.{matrixFor, matrixOf, acesNumber, IsAces}
 use Rattle.rules.specs.Pixels.{triple, Small3}
-use Rattle.rules.proofs.Search.{NearTriple}
+use Rattle.rules.proofs.Within.{NearTriple}
 use Rattle.whole.proofs.Tests.{every, nth, passes, each-of-three}
 use Rattle.row_product.specs.Row.{over}
 use Rattle.row_product.proofs.Nearest.{nearest-of}

@@ -6,6 +6,6 @@ use Rattle.rules.specs.declared.CurveName.the-variants.{LogC2, LogC3, LogC4, Un
 
 abbrev pub gapOf : CurveName → ℕ
 gapOf LogC2 = 9
-gapOf LogC3 = 28
+gapOf LogC3 = 42
 gapOf LogC4 = 466
 gapOf Unknown = 0

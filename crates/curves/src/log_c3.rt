@@ -18,7 +18,7 @@ impl LogC3 {
 
     // The decoded numbers of two codes are at least so many units apart. (At width 16 and EI 200 two
     // are 42.89 apart before they are rounded.)
-    pub const GAP: u64 = 28;
+    pub const GAP: u64 = 42;
 
     // "Always a = 5.555556."
     pub const A: u64 = 5_555556;

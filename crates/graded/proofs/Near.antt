@@ -12,7 +12,7 @@ use Rattle.rules.specs.Pixels.{acesTriple}
 use Rattle.rules.specs.Setting.{ValidForAces}
 use Rattle.rules.specs.Graded.{gradedChecks, GradedWithin}
 use Rattle.rules.proofs.Graded.{all-graded}
-use Rattle.rules.proofs.Search.{near-within3}
+use Rattle.rules.proofs.Within.{near-within3}
 use Rattle.aces_inverse.specs.Reach.{InReach}
 use Rattle.aces_inverse.specs.Inverse.{candidates}
 use Rattle.aces_inverse.proofs.Inverse.{candidate-encodes, candidates-near}

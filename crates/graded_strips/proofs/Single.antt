@@ -6,6 +6,7 @@ use mathlib.Core.List.{List}
 use Prim.Native.Nat.{ℕ, _^_, _<_}
 use lib.IntN.{ℤ}
 use Rattle.rules.specs.declared.Check.the-variants.{Passed}
+use Rattle.rules.specs.declared.Distance.the-variants.{Exact}
 use Rattle.rules.specs.declared.Found.{Found}
 use Rattle.rules.specs.declared.Pixel.{Pixel}
 use Rattle.rules.specs.declared.Scenes.{Scenes}
@@ -17,7 +18,7 @@ use Rattle.rules.specs.Pixels.{scenes, Small3}
 use Rattle.rules.specs.Record.{IsBytes, settingOf, tripleIn, pixelRecord}
 use Rattle.rules.specs.Setting.{acesCheck, ValidForAces}
 use Rattle.rules.specs.Strip.{recordCheck}
-use Rattle.rules.specs.WayBack.{foundCheck, pixelBy}
+use Rattle.rules.specs.WayBack.{foundCheck, pixelBy, exact}
 use Rattle.rules.proofs.Between.{scene-small}
 use Rattle.rules.proofs.Codes.{code-small}
 use Rattle.rules.proofs.Graded.{all-graded, graded-all}
@@ -31,7 +32,7 @@ use Rattle.aces_inverse.specs.Inverse.{candidates}
 use Rattle.graded.specs.Graded.{reached, toSceneResult}
 use Rattle.graded.proofs.Theorems.{graded-near}
 use Rattle.way_back.specs.Back.{pixelFor}
-use Rattle.way_back.proofs.Only.{exact-enough, passed-found}
+use Rattle.way_back.proofs.Only.{near-enough, passed-found}
 use Rattle.record_conversion.specs.Conversions.{sceneToPixel, acesToPixel, gradedToScene, gradedToPixel}
 use Rattle.promise.specs.Words.{numberIn}
 use Rattle.graded_strips.specs.Words.{HoldsGraded, Given, GivesScenes, GivesPixel}
@@ -121,6 +122,6 @@ unfolding pixelBy
 as-way-back r e =
     let s = settingOf r in
     let a = tripleIn r in
-    let v = both (acesCheck s) (foundCheck (pixelFor s a)) e in
-    let f = passed-found 0 s (v .0) (exact-enough s (aces-valid s (v .0))) a (v .1) in
+    let v = both (acesCheck s) (foundCheck (pixelFor exact s a)) e in
+    let f = passed-found exact s (v .0) (near-enough Exact s (v .0)) a (v .1) in
     (rw (v .0) (graded-all a (f .0)), ap (λ (q : Found). pixelRecord s (pixelFound q)) (f .1))

@@ -14,6 +14,7 @@ use Rattle.whole.proofs.Reflect.{one-zero, abs-is, at, sub, dif, ltN-of}
 use Rattle.whole.proofs.Near.{near-test}
 use Rattle.whole.proofs.Tidy.{tidy}
 use Rattle.rules.specs.Fraction.{Fraction, whole, ratio, integer, _+ℚ_, _-ℚ_, _*ℚ_, VersusPower, nearest, Less, Greater}
+use Rattle.rules.specs.declared.Distance.the-variants.{Exact}
 use Rattle.rules.specs.declared.Setting.{Setting}
 use Rattle.rules.specs.Setting.{settingCheck, acesCheck, topOf, codesOf, curveOf, lastOf, codeAt, codeCheck, Valid, ValidForAces}
 use Rattle.rules.specs.Curve.{logC4, exponent, toeValue}
@@ -24,12 +25,13 @@ use Rattle.rules.specs.Float.{valueOf, floatCheck, unitsOf}
 use Rattle.rules.specs.declared.Check.the-variants.{Passed}
 use Rattle.rules.proofs.Codes.{code-passes, code-rises}
 use Rattle.rules.proofs.Values as values
-use Rattle.rules.proofs.Search.{near-within3, none-found}
+use Rattle.rules.proofs.Within.{near-within3}
+use Rattle.rules.proofs.Search.{none-found}
 use Rattle.rules.specs.Matrix.{matrixOf, acesNumber}
 use Rattle.rules.specs.declared.Pixel.{Pixel}
 use Rattle.rules.specs.declared.Found.{Found}
 use Rattle.rules.specs.Refusal.{numberOfCheck}
-use Rattle.rules.specs.WayBack.{within3, pixelBy, foundCheck}
+use Rattle.rules.specs.WayBack.{within3, pixelBy, exact, foundCheck}
 use Rattle.rules.specs.Strip.{answerOf}
 use Rattle.decode.specs.Decoded.{decoded}
 use Rattle.decode.proofs.Distance.{decodes-rises, decodes-small}
@@ -37,7 +39,7 @@ use Rattle.decode.proofs.Theorems.{decoding, gap-large}
 use Rattle.encode.proofs.Theorems.{encode-near}
 use Rattle.aces_inverse.specs.Inverse.{candidate}
 use Rattle.way_back.specs.Candidate.{codeFor, candidatePixel}
-use Rattle.way_back.proofs.Only.{GivesBy, exact-enough, only-candidate-by}
+use Rattle.way_back.proofs.Only.{GivesBy, near-enough, only-candidate-by}
 use Rattle.marked.specs.Marked.{Marked, setting, Allowed, number4095, limit, nextTriple}
 use Rattle.rules.specs.Pixels.{pixel, acesOf}
 
@@ -161,11 +163,11 @@ module _ (number : ℕ → ℤ) (allowed : Allowed s800 number) where
   -- and no other pixel can give this one
   never : (q : Pixel) → GivesBy 0 number s800 nextTriple q → ⊥
   never q g =
-      let e : q ≡ pixel 0 0 0 = only-candidate-by s800 aces-800 number allowed 0 (exact-enough s800 valid-800) nextTriple q g ∙ first-pixel in
+      let e : q ≡ pixel 0 0 0 = only-candidate-by s800 aces-800 number allowed exact (near-enough Exact s800 aces-800) nextTriple q g ∙ first-pixel in
       let f : within3 0 nextTriple (acesOf number (matrixOf s800) q) ≡ true = near-within3 0 nextTriple (acesOf number (matrixOf s800) q) (g .numbers) in
       absurd (subst T (sym f ∙ ap (λ (p : Pixel). within3 0 nextTriple (acesOf number (matrixOf s800) p)) e ∙ first-gives) tt)
 
-  no-pixel : numberOfCheck (foundCheck (pixelBy (λ s. number) s800 nextTriple)) ≡ 10
+  no-pixel : numberOfCheck (foundCheck (pixelBy exact (λ s. number) s800 nextTriple)) ≡ 10
   unfolding pixelBy
   no-pixel = ap (λ (f : Found). numberOfCheck (foundCheck f)) (none-found 0 number (matrixOf s800) (codeAt s800) (lastOf s800) nextTriple never)
 

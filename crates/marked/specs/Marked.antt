@@ -23,7 +23,7 @@ use Rattle.rules.specs.Decoding.{DecodesCode}
 use Rattle.rules.specs.Encoding.{IsNearest, numberAt, sceneCheck}
 use Rattle.rules.specs.Float.{floatCheck, unitsOf}
 use Rattle.rules.specs.Matrix.{matrixOf, IsAces}
-use Rattle.rules.specs.WayBack.{pixelBy, foundCheck}
+use Rattle.rules.specs.WayBack.{pixelBy, exact, foundCheck}
 use Rattle.rules.specs.Strip.{answerOf}
 use Rattle.rules.specs.Conversions.{pixelToScene, pixelToAces}
 use Rattle.rules.specs.Pixels.{triple}
@@ -80,7 +80,7 @@ pub record Marked : Type 0 where
   pub scene-past-limit : numberOfCheck (sceneCheck (pos (limit + 1))) ≡ 7
   -- "ACES -290085, -290085, -290084 under curve 3, width 12, EI 800: 10."
   pub no-pixel : (number : ℕ → ℤ) → Allowed (setting 3 12 800) number
-      → numberOfCheck (then (acesCheck (setting 3 12 800)) (foundCheck (pixelBy (λ s. number) (setting 3 12 800) nextTriple))) ≡ 10
+      → numberOfCheck (then (acesCheck (setting 3 12 800)) (foundCheck (pixelBy exact (λ s. number) (setting 3 12 800) nextTriple))) ≡ 10
   -- "Float 2^-25 is unit 1, -2^-25 is 0."
   pub float-half : (floatCheck (fin false 1 (minus 25)) ≡ Passed) × (unitsOf (fin false 1 (minus 25)) ≡ pos 1)
   pub float-minus-half : (floatCheck (fin true 1 (minus 25)) ≡ Passed) × (unitsOf (fin true 1 (minus 25)) ≡ pos 0)

@@ -1,5 +1,7 @@
+pub mod Judged
 pub mod Single
 pub mod Strips
+pub mod Taken
 pub mod Theorems
 pub mod Each
 pub mod EachChannel

@@ -2,19 +2,16 @@
 -- makes the same ACES strip of an accepted pixel strip, byte for byte, and finds the same pixel on the way back. None of our tables is
 -- needed to read a master, only the layout of its records.
 -- Assumes nothing.
-use mathlib.Core.Path.{_≡_, refl, ap, ap₂, sym, _∙_}
-use mathlib.Core.List.{List, _++_}
-use Prim.Native.Nat.{ℕ, zero, suc, _<_}
-use native.Mathlib.Omega.{arith}
+use mathlib.Core.Path.{_≡_, ap}
+use mathlib.Core.List.{List}
+use Prim.Native.Nat.{ℕ}
 use lib.IntN.{ℤ}
-use lib.ListN.{length, take, drop}
-use Rattle.rules.specs.declared.Found.{Found}
 use Rattle.rules.specs.declared.Setting.{Setting}
 use Rattle.rules.specs.declared.Triple.{Triple}
 use Rattle.rules.specs.Setting.{codeAt, lastOf, ValidForAces}
 use Rattle.rules.specs.Matrix.{matrixOf}
 use Rattle.rules.specs.Record.{settingOf, pixelIn, acesRecord, pixelSize}
-use Rattle.rules.specs.Strip.{records, recordAt, written}
+use Rattle.rules.specs.Strip.{recordAt}
 use Rattle.rules.specs.WayBack.{pixelBy}
 use Rattle.rules.proofs.Search.{same-aces, same-found}
 use Rattle.rules.proofs.Codes.{code-passes}
@@ -23,19 +20,9 @@ use Rattle.decode.specs.Decoded.{decoded}
 use Rattle.decoded_nearest.specs.Nearest.{NearestNumbers}
 use Rattle.decoded_nearest.proofs.Theorems.{nearest-numbers}
 use Rattle.way_back.specs.Back.{pixelFor}
-use Rattle.strip.proofs.First.{at-start, at-later}
 use Rattle.promise.specs.Words.{HoldsPixel, Accepted, acesStripBy, acesStrip}
-use Rattle.promise.proofs.Strips.{whole-records}
+use Rattle.promise.proofs.Strips.{whole-records, same-written}
 use Rattle.rules.specs.Pixels.{acesOf}
-
--- functions that agree on n records write the same
-same-written : (f g : List ℕ → List ℕ) (size n : ℕ) (s : List ℕ) → ((k : ℕ) → k < n → f (recordAt size k s) ≡ g (recordAt size k s))
-    → written f (records size n s) ≡ written g (records size n s)
-unfolding written records
-same-written f g size zero s h = refl
-same-written f g size (suc n) s h =
-    ap₂ (λ (x y : List ℕ). x ++ y) (ap f (sym (at-start size s)) ∙ h 0 (omega arith) ∙ ap g (at-start size s))
-    (same-written f g size n (drop size s) (λ k l. ap f (sym (at-later size k s)) ∙ h (suc k) (omega arith) ∙ ap g (at-later size k s)))
 
 module _ (number : Setting → ℕ → ℤ) (near : NearestNumbers number) where
   same-record : (r : List ℕ) → HoldsPixel r
@@ -53,9 +40,9 @@ module _ (number : Setting → ℕ → ℤ) (near : NearestNumbers number) where
       rw (whole-records pixels n a)
       (same-written (λ r. acesRecord (settingOf r) (acesOf (number (settingOf r)) (matrixOf (settingOf r)) (pixelIn r)))
       (λ r. acesRecord (settingOf r) (acesOf (decoded (settingOf r)) (matrixOf (settingOf r)) (pixelIn r)))
-      pixelSize n pixels (λ k l. ap (acesRecord (settingOf (recordAt pixelSize k pixels))) (same-record (recordAt pixelSize k pixels) (a .each k l))))
+      pixelSize pixelSize n pixels pixels (λ k l. ap (acesRecord (settingOf (recordAt pixelSize k pixels))) (same-record (recordAt pixelSize k pixels) (a .each k l))))
 
-  -- THE WAY BACK finds the same pixel, or none, for any three numbers
-  pub papers-alone-back : (s : Setting) → ValidForAces s → (a : Triple) → pixelBy number s a ≡ pixelFor s a
+  -- A WAY BACK finds the same pixel, or none, for any three numbers, at any distance
+  pub papers-alone-back : (e : ℕ) (s : Setting) → ValidForAces s → (a : Triple) → pixelBy e number s a ≡ pixelFor e s a
   unfolding pixelBy
-  papers-alone-back s v a = same-found 0 (number s) (decoded s) (matrixOf s) (codeAt s) (lastOf s) a (λ i h. nearest-numbers number near s (aces-valid s v) (codeAt s i) (code-passes s i h))
+  papers-alone-back e s v a = same-found e (number s) (decoded s) (matrixOf s) (codeAt s) (lastOf s) a (λ i h. nearest-numbers number near s (aces-valid s v) (codeAt s i) (code-passes s i h))

@@ -1,5 +1,7 @@
--- One record: an ACES record passes the checks of the way back exactly where a pixel gives it; and pixel to ACES and back returns a record.
+-- One record of a strip: an ACES record passes the checks of a way back exactly where a pixel gives it; and pixel to ACES and back returns a
+-- record, where its numbers were moved by no more than the distance of the way back.
 -- Assumes nothing.
+use mathlib.Core.Bool.{true}
 use mathlib.Core.Path.{_≡_, refl, ap, sym, _∙_}
 use mathlib.Core.List.{List}
 use Prim.Native.Nat.{ℕ, _+_, _*_, _^_}
@@ -7,46 +9,37 @@ use native.Mathlib.Omega.{arith}
 use lib.ListN.{length, drop}
 use Rattle.rules.specs.declared.Check.{Check}
 use Rattle.rules.specs.declared.Check.the-variants.{Passed, Refused}
+use Rattle.rules.specs.declared.Distance.{Distance}
+use Rattle.rules.specs.declared.Distance.the-variants.{Exact}
 use Rattle.rules.specs.declared.Found.{Found}
 use Rattle.rules.specs.declared.Found as found
 use Rattle.rules.specs.declared.Pixel.{Pixel}
 use Rattle.rules.specs.declared.Refusal.{Refusal}
-use Rattle.rules.specs.declared.Refusal.the-variants.{NoPixel}
 use Rattle.rules.specs.declared.Setting.{Setting}
 use Rattle.rules.specs.declared.Triple.{Triple}
-use Rattle.rules.specs.Refusal.{then, numberOf, numberOfCheck}
-use Rattle.rules.specs.Setting.{acesCheck, codeCheck, ValidForAces}
+use Rattle.rules.specs.Conversions.{channelChecks, pixelFound}
+use Rattle.rules.specs.Pixels.{IsPixel, Small3}
+use Rattle.rules.specs.Refusal.{numberOf, numberOfCheck}
+use Rattle.rules.specs.Setting.{codeCheck, ValidForAces}
 use Rattle.rules.specs.Record.{IsBytes, toBits, ofBits, codeBytes, settingOf, channelAt, recordOf, pixelIn, pixelRecord, tripleIn, acesRecord, numbersSize, settingBytes, numberBytes}
 use Rattle.rules.specs.Strip.{recordCheck}
-use Rattle.rules.specs.WayBack.{foundCheck}
+use Rattle.rules.specs.WayBack.{within3, distanceOf}
+use Rattle.rules.proofs.Channels.{codes-pixel}
+use Rattle.rules.proofs.Within as within
+use Rattle.rules.proofs.Within.{near-within3, triple-more, within3-equal}
 use Rattle.rules.proofs.Written as written
 use Rattle.rules.proofs.Written.{FitsSetting, fits-setting}
 use Rattle.rules.proofs.Records.{value-small, drop-bytes, write-read, to-of}
-use Rattle.rules.proofs.Settings.{aces-valid, both, refused-never}
-use Rattle.decode.specs.Decoded.{decoded}
-use Rattle.aces_inverse.specs.Reach.{InReach}
-use Rattle.aces_inverse.proofs.Inverse.{aces-small}
-use Rattle.decode.proofs.Distance.{decoded-small}
-use Rattle.way_back.specs.Back.{pixelFor}
-use Rattle.way_back.proofs.Theorems.{found-gives, own-found, one-pixel}
-use Rattle.record_conversion.specs.Conversions.{pixelToAces, acesToPixel}
-use Rattle.rules.proofs.Channels.{codes-pixel}
-use Rattle.record_conversion.proofs.Good.{Good}
-use Rattle.promise.specs.Words.{given, Without, OnlyPixel, refusalOf}
-use Rattle.rules.specs.Pixels.{IsPixel, Small3}
-use Rattle.rules.specs.Conversions.{channelChecks, pixelFound}
+use Rattle.rules.proofs.Settings.{both, refused-never}
 use Rattle.aces.specs.OfPixel.{pixelAces}
-
--- the ACES numbers of a pixel are small
-pixel-given : (s : Setting) → ValidForAces s → (p : Pixel) → IsPixel s p → InReach (pixelAces s p .red .0) (pixelAces s p .green .0) (pixelAces s p .blue .0)
-pixel-given s v p i =
-    aces-small s v (decoded s (p .red .0)) (decoded s (p .green .0)) (decoded s (p .blue .0))
-    (record {
-      red = decoded-small s (aces-valid s v) (p .red .0) (i .red);
-      green = decoded-small s (aces-valid s v) (p .green .0) (i .green);
-      blue = decoded-small s (aces-valid s v) (p .blue .0) (i .blue);
-    })
-    (record { red-is = refl; green-is = refl; blue-is = refl })
+use Rattle.aces_inverse.specs.Reach.{InReach}
+use Rattle.way_back.specs.Back.{pixelFor}
+use Rattle.way_back.proofs.Reach.{pixel-reached}
+use Rattle.way_back.proofs.Theorems.{given-found}
+use Rattle.record_conversion.specs.Conversions.{pixelToAces, backWithin}
+use Rattle.record_conversion.proofs.Good.{Good}
+use Rattle.promise.specs.Words.{given, refusalOf, HasNumbers, Without, OnlyPixel, GivesRecord}
+use Rattle.promise.proofs.Judged.{Reads, Judged, judged, not-both}
 
 -- ---- what is read of an ACES record that was written
 module _ (s : Setting) (f : FitsSetting s) (a : Triple) (g : InReach (a .red .0) (a .green .0) (a .blue .0)) where
@@ -71,71 +64,55 @@ record-read r h l =
         let at : ℕ = settingBytes + i * numberBytes in
         to-of numberBytes (channelAt numberBytes r i) (value-small numberBytes (drop at r) (drop-bytes at r h))
 
--- ---- what the way back says of an ACES record
+-- ---- a pixel gives an ACES record exactly where it has its numbers
 module _ (r : List ℕ) (h : IsBytes r) (l : length r ≡ numbersSize) where
   abbrev s : Setting
   s = settingOf r
 
-  -- a pixel that gives the record gives its numbers, and the other way round
   numbers-given : ValidForAces s → (p : Pixel) → IsPixel s p → given s p ≡ r → pixelAces s p ≡ tripleIn r
-  numbers-given v p i e = sym (triple-read s (fits-setting r h) (pixelAces s p) (pixel-given s v p i)) ∙ ap tripleIn e
+  numbers-given v p i e = sym (triple-read s (fits-setting r h) (pixelAces s p) (pixel-reached s v p i)) ∙ ap tripleIn e
 
   record-given : (p : Pixel) → pixelAces s p ≡ tripleIn r → given s p ≡ r
   record-given p e = ap (acesRecord s) e ∙ record-read r h l
 
-  passed-valid : recordCheck acesToPixel r ≡ Passed → ValidForAces s × (foundCheck (pixelFor s (tripleIn r)) ≡ Passed)
-  passed-valid e = both (acesToPixel .setting s) (acesToPixel .inner r) e
+  pub record-reads : Reads Exact (settingOf r) (tripleIn r) (GivesRecord r)
+  record-reads v p i = let w = within3-equal (tripleIn r) (pixelAces s p) in (λ e. w .1 (sym (numbers-given v p i e)), λ e. record-given p (sym (w .0 e)))
+
+pub numbers-read : (s : Setting) (a : Triple) → Reads Exact s a (HasNumbers s a)
+numbers-read s a v p i = let w = within3-equal a (pixelAces s p) in (λ e. w .1 (sym e), λ e. sym (w .0 e))
+
+-- ---- a record, judged by a way back
+module _ (k : Distance) (G : List ℕ → Pixel → Type 0) (r : List ℕ) (reads : Reads k (settingOf r) (tripleIn r) (G r)) where
+  abbrev verdict : Check → Found → Type 0
+  verdict = Judged (settingOf r) (G r)
+
+  abbrev f : Found
+  f = pixelFor (distanceOf k) (settingOf r) (tripleIn r)
+
+  here : Judged (settingOf r) (G r) (recordCheck (backWithin (distanceOf k)) r) (pixelFor (distanceOf k) (settingOf r) (tripleIn r))
+  here = judged k (settingOf r) (tripleIn r) (G r) reads
 
   -- THE RECORD PASSES: it comes back as the only pixel that gives it
-  pub passed-only : recordCheck acesToPixel r ≡ Passed → OnlyPixel r (acesToPixel .bytes r)
-  passed-only e = let v = passed-valid e in go (v .0) (pixelFor s (tripleIn r)) refl (v .1)
+  pub passed-only : recordCheck (backWithin (distanceOf k)) r ≡ Passed → OnlyPixel G r (backWithin (distanceOf k) .bytes r)
+  passed-only e = go (recordCheck (backWithin (distanceOf k)) r) f here e
     where
-      go : ValidForAces s → (f : Found) → pixelFor s (tripleIn r) ≡ f → foundCheck f ≡ Passed → OnlyPixel r (pixelRecord s (pixelFound (pixelFor s (tripleIn r))))
-      go v (found.Found.Pixel p) e k =
-          let g = found-gives s (tripleIn r) p e in
-          record {
-            pixel = p;
-            valid = v;
-            is-pixel = g .0;
-            gives = record-given p (g .1);
-            only = λ q i m. one-pixel s v q p i (g .0) (numbers-given v q i m ∙ sym (g .1));
-            holds = ap (λ (f : Found). pixelRecord s (pixelFound f)) e;
-          }
-      go v found.Found.Nothing e k = refused-never k
+      go : (x : Check) (f : Found) → Judged (settingOf r) (G r) x f → x ≡ Passed → OnlyPixel G r (pixelRecord (settingOf r) (pixelFound f))
+      go _ _ (Judged.returned p o) e = record { pixel = p; is-only = o; holds = refl }
+      go _ _ (Judged.refused why f w n) e = refused-never e
 
-  -- a pixel gives the record: it passes
-  pub given-passes : ValidForAces s → (p : Pixel) → IsPixel s p → given s p ≡ r → recordCheck acesToPixel r ≡ Passed
-  given-passes v p i e =
-      rw v (ap (λ (a : Triple). foundCheck (pixelFor s a)) (sym (numbers-given v p i e)) ∙ ap foundCheck (own-found s v p i))
+  -- so a record without a pixel does not
+  pub without-refused : Without G r → recordCheck (backWithin (distanceOf k)) r ≡ Passed → ⊥
+  without-refused w e = not-both w (passed-only e .is-only)
 
-  -- so a record without a pixel is refused, and what is refused is without one
-  pub not-both : Without r → recordCheck acesToPixel r ≡ Passed → ⊥
-  not-both (Without.no-setting n) e = n (passed-valid e .0)
-  not-both (Without.no-pixel n) e = let o = passed-only e in n (o .pixel) (o .is-pixel) (o .gives)
-
-  pub refused-without : (why : Refusal) → recordCheck acesToPixel r ≡ Refused why → Without r
-  refused-without why e = go (acesCheck s) refl
+  -- and what is refused is without one
+  pub refused-without : (why : Refusal) → recordCheck (backWithin (distanceOf k)) r ≡ Refused why → Without G r × (numberOf why ≡ refusalOf (settingOf r))
+  refused-without why e = go (recordCheck (backWithin (distanceOf k)) r) f here e
     where
-      go : (x : Check) → acesCheck s ≡ x → Without r
-      go (Refused w) f = Without.no-setting (λ v. refused-never (sym f ∙ v))
-      go Passed f = Without.no-pixel (λ p i g. refused-never (sym e ∙ given-passes f p i g))
+      go : (x : Check) (f : Found) → Judged (settingOf r) (G r) x f → x ≡ Refused why → Without G r × (numberOf why ≡ refusalOf (settingOf r))
+      go _ _ (Judged.returned p o) e = refused-never (sym e)
+      go _ _ (Judged.refused w f without n) e = (without, ap numberOfCheck (sym e) ∙ n)
 
--- the number of what is refused
-pub refusal-number : (r : List ℕ) (why : Refusal) → recordCheck acesToPixel r ≡ Refused why → numberOf why ≡ refusalOf (settingOf r)
-refusal-number r why e = go (acesCheck (settingOf r)) refl (foundCheck (pixelFor (settingOf r) (tripleIn r))) refl e
-  where
-    numbers : (x y : Check) → x ≡ y → numberOfCheck x ≡ numberOfCheck y
-    numbers x y e = ap numberOfCheck e
-
-    go : (x : Check) → acesCheck (settingOf r) ≡ x → (y : Check) → foundCheck (pixelFor (settingOf r) (tripleIn r)) ≡ y → then x y ≡ Refused why → numberOf why ≡ numberOfCheck (then (acesCheck (settingOf r)) (Refused NoPixel))
-    go (Refused w) f y g e = rw f (numbers (Refused why) (Refused w) (sym e))
-    go Passed f y g e = rw f (numbers (Refused why) (Refused NoPixel) (sym (g ∙ e) ∙ only-cause (pixelFor (settingOf r) (tripleIn r)) (g ∙ e)))
-      where
-        only-cause : (p : Found) → foundCheck p ≡ Refused why → foundCheck p ≡ Refused NoPixel
-        only-cause (found.Found.Pixel p) h = refused-never (sym h)
-        only-cause found.Found.Nothing h = refl
-
--- ---- pixel to ACES and back
+-- ---- pixel to ACES and back, by either way back
 module _ (r : List ℕ) (g : Good pixelToAces r) where
   abbrev setting : Setting
   setting = settingOf r
@@ -147,19 +124,22 @@ module _ (r : List ℕ) (g : Good pixelToAces r) where
   pixel = codes-pixel setting r (checked .1)
 
   small : InReach (pixelAces setting (pixelIn r) .red .0) (pixelAces setting (pixelIn r) .green .0) (pixelAces setting (pixelIn r) .blue .0)
-  small = pixel-given setting (checked .0) (pixelIn r) pixel
+  small = pixel-reached setting (checked .0) (pixelIn r) pixel
 
-  same-setting : settingOf (pixelToAces .bytes r) ≡ setting
+  pub same-setting : settingOf (pixelToAces .bytes r) ≡ setting
   same-setting = setting-read setting (fits-setting r (g .bytes)) (pixelAces setting (pixelIn r)) small
 
   pub same-triple : tripleIn (pixelToAces .bytes r) ≡ pixelAces setting (pixelIn r)
   same-triple = triple-read setting (fits-setting r (g .bytes)) (pixelAces setting (pixelIn r)) small
 
-  finds : pixelFor (settingOf (pixelToAces .bytes r)) (tripleIn (pixelToAces .bytes r)) ≡ found.Found.Pixel (pixelIn r)
-  finds = rw (same-setting, same-triple) (own-found setting (checked .0) (pixelIn r) pixel)
+  -- an ACES record of the same setting, whose numbers are at most the distance from those that are written
+  pub taken-back : (k : Distance) (a : List ℕ) → settingOf a ≡ setting → within3 (distanceOf k) (tripleIn a) (tripleIn (pixelToAces .bytes r)) ≡ true
+      → (recordCheck (backWithin (distanceOf k)) a ≡ Passed) × (backWithin (distanceOf k) .bytes a ≡ r)
+  taken-back k a e w =
+      let n : within3 (distanceOf k) (tripleIn a) (pixelAces setting (pixelIn r)) ≡ true = ap (within3 (distanceOf k) (tripleIn a)) (sym same-triple) ∙ w in
+      let finds : pixelFor (distanceOf k) (settingOf a) (tripleIn a) ≡ found.Found.Pixel (pixelIn r) = rw e (given-found k setting (checked .0) (tripleIn a) (pixelIn r) pixel n) in
+      (rw (finds, e, checked .0), rw (finds, e) (write-read codeBytes r (g .bytes) (g .long)))
 
-  pub back-passes : recordCheck acesToPixel (pixelToAces .bytes r) ≡ Passed
-  back-passes = rw (finds, same-setting, checked .0)
-
-  pub back-same : acesToPixel .bytes (pixelToAces .bytes r) ≡ r
-  back-same = rw (finds, same-setting) (write-read codeBytes r (g .bytes) (g .long))
+  -- and so what is written
+  pub back-itself : (k : Distance) → (recordCheck (backWithin (distanceOf k)) (pixelToAces .bytes r) ≡ Passed) × (backWithin (distanceOf k) .bytes (pixelToAces .bytes r) ≡ r)
+  back-itself k = taken-back k (pixelToAces .bytes r) same-setting (near-within3 (distanceOf k) _ _ (triple-more (distanceOf k) (within.same-triple refl)))

@@ -1,6 +1,6 @@
 -- Strips: where a record is written, an accepted pixel strip is converted whole, and its ACES strip.
 -- Assumes nothing.
-use mathlib.Core.Path.{_≡_, refl, ap, sym, _∙_, subst}
+use mathlib.Core.Path.{_≡_, refl, ap, ap₂, sym, _∙_, subst}
 use mathlib.Core.List.{List, [], _∷_, _++_, append-assoc, append-nil}
 use Prim.Native.Nat.{ℕ, zero, suc, _+_, _-_, _*_, _/_, _≤_, _<_}
 use native.Mathlib.Nat.{mul-le-mul-right, mul-div-cancel, suc-mul, le-of-eq, zero-add}
@@ -41,6 +41,14 @@ written-at f to long size (suc n) s rest (suc k) h =
     ∙ ap (recordAt to k) (drop-at (f (take size s)) _ to (long (take size s)))
     ∙ written-at f to long size n (drop size s) rest k (omega arith)
     ∙ ap f (sym (at-later size k s))
+
+-- what is written of two strips is the same where it is so record by record
+pub same-written : (f g : List ℕ → List ℕ) (a b n : ℕ) (s t : List ℕ) → ((k : ℕ) → k < n → f (recordAt a k s) ≡ g (recordAt b k t)) → written f (records a n s) ≡ written g (records b n t)
+unfolding written records
+same-written f g a b zero s t h = refl
+same-written f g a b (suc n) s t h =
+    ap₂ (λ (x y : List ℕ). x ++ y) (ap f (sym (at-start a s)) ∙ h 0 (omega arith) ∙ ap g (at-start b t))
+    (same-written f g a b n (drop a s) (drop b t) (λ k l. ap f (sym (at-later a k s)) ∙ h (suc k) (omega arith) ∙ ap g (at-later b k t)))
 
 pub bytes-at : (size k : ℕ) (s : List ℕ) → IsBytes s → IsBytes (recordAt size k s)
 bytes-at size k s h = take-bytes size (drop (k * size) s) (drop-bytes (k * size) s h)

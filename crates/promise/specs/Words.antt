@@ -75,60 +75,65 @@ stepIn r n = stepOf (settingOf r) n
 abbrev pub NearExact : (i : ℕ) → (r a : List ℕ) → Type 0
 NearExact i r a = WithinRow acesTolerance (matrixOf (settingOf r)) i (scaleOf (settingOf r)) (stepIn r (pixelIn r .red .0)) (stepIn r (pixelIn r .green .0)) (stepIn r (pixelIn r .blue .0)) (numberIn i a)
 
--- an ACES record that "has no valid setting or no pixel of its setting gives it"
-pub data Without (r : List ℕ) : Type 0 where
-  no-setting : (ValidForAces (settingOf r) → ⊥) → Without r
-  no-pixel : ((p : Pixel) → IsPixel (settingOf r) p → given (settingOf r) p ≡ r → ⊥) → Without r
-
--- an ACES record r and "the only pixel of its setting that gives it", in the pixel record out
-pub record OnlyPixel (r out : List ℕ) : Type 0 where
-  pub pixel : Pixel
-  pub valid : ValidForAces (settingOf r)
-  pub is-pixel : IsPixel (settingOf r) pixel
-  pub gives : given (settingOf r) pixel ≡ r
-  pub only : (q : Pixel) → IsPixel (settingOf r) q → given (settingOf r) q ≡ r → q ≡ pixel
-  pub holds : out ≡ pixelRecord (settingOf r) pixel
-
--- the number by which the way back refuses under a setting: that of the setting's first check that fails, else 10
+-- the number by which a way back refuses under a setting: that of the setting's first check that fails, else 10
 abbrev pub refusalOf : Setting → ℕ
 refusalOf s = numberOfCheck (then (acesCheck s) (Refused NoPixel))
 
+-- ---- a way back of one record. G says which pixels of its setting give it.
+
+-- "no valid setting or no pixel of its setting gives it"
+pub data WithoutPixel (s : Setting) (G : Pixel → Type 0) : Type 0 where
+  no-setting : (ValidForAces s → ⊥) → WithoutPixel s G
+  no-pixel : ((p : Pixel) → IsPixel s p → G p → ⊥) → WithoutPixel s G
+
+-- "the only pixel of its setting that gives it"
+pub record IsOnlyPixel (s : Setting) (G : Pixel → Type 0) (p : Pixel) : Type 0 where
+  pub valid : ValidForAces s
+  pub is-pixel : IsPixel s p
+  pub gives : G p
+  pub only : (q : Pixel) → IsPixel s q → G q → q ≡ p
+
+-- what it gives: a refusal, or the codes of the only pixel
+pub data GivesOnly (s : Setting) (G : Pixel → Type 0) : Result ℕ → Type 0 where
+  refuses : WithoutPixel s G → GivesOnly s G (refusedBy (refusalOf s) 0)
+  returns : (p : Pixel) → IsOnlyPixel s G p → GivesOnly s G (done (codes p))
+
+-- "any one ACES record .. whatever the settings and numbers": any setting bytes s and any three numbers a. The exact way back returns a pixel with
+-- these numbers
+abbrev pub HasNumbers : Setting → Triple → Pixel → Type 0
+HasNumbers s a p = pixelAces s p ≡ a
+
+-- ---- a way back of strips. G says of an ACES record which pixels of its setting give it.
+abbrev pub Without : (G : List ℕ → Pixel → Type 0) → List ℕ → Type 0
+Without G r = WithoutPixel (settingOf r) (G r)
+
+-- an ACES record r and "the only pixel of its setting that gives it", in the pixel record out
+pub record OnlyPixel (G : List ℕ → Pixel → Type 0) (r out : List ℕ) : Type 0 where
+  pub pixel : Pixel
+  pub is-only : IsOnlyPixel (settingOf r) (G r) pixel
+  pub holds : out ≡ pixelRecord (settingOf r) pixel
+
 -- some of n records has "no valid setting or no pixel of its setting gives it"
-pub record SomeWithout (aces : List ℕ) (n : ℕ) : Type 0 where
+pub record SomeWithout (G : List ℕ → Pixel → Type 0) (aces : List ℕ) (n : ℕ) : Type 0 where
   pub at : ℕ
   pub in-range : at < n
-  pub without : Without (recordAt numbersSize at aces)
+  pub without : Without G (recordAt numbersSize at aces)
 
 -- the k-th of n records is the first such
-pub record FirstWithout (aces : List ℕ) (n k : ℕ) : Type 0 where
+pub record FirstWithout (G : List ℕ → Pixel → Type 0) (aces : List ℕ) (n k : ℕ) : Type 0 where
   pub in-range : k < n
-  pub without : Without (recordAt numbersSize k aces)
-  pub before : (j : ℕ) → j < k → Without (recordAt numbersSize j aces) → ⊥
+  pub without : Without G (recordAt numbersSize k aces)
+  pub before : (j : ℕ) → j < k → Without G (recordAt numbersSize j aces) → ⊥
 
 -- a call that refuses, "and it reports the first such record": its number and its index
 abbrev pub refusedAt : (aces : List ℕ) (k : ℕ) → Result ℕ
 refusedAt aces k = refusedBy (refusalOf (settingOf (recordAt numbersSize k aces))) k
 
-pub record ReportsFirst (aces : List ℕ) (n : ℕ) (result : Result ℕ) : Type 0 where
+pub record ReportsFirst (G : List ℕ → Pixel → Type 0) (aces : List ℕ) (n : ℕ) (result : Result ℕ) : Type 0 where
   pub at : ℕ
   pub reported : result ≡ refusedAt aces at
-  pub first : FirstWithout aces n at
+  pub first : FirstWithout G aces n at
 
--- ---- "any one ACES record .. whatever the settings and numbers": any setting bytes s and any three numbers a
-
--- "no valid setting or no pixel of its setting gives it"
-pub data WithoutPixel (s : Setting) (a : Triple) : Type 0 where
-  no-setting : (ValidForAces s → ⊥) → WithoutPixel s a
-  no-pixel : ((p : Pixel) → IsPixel s p → pixelAces s p ≡ a → ⊥) → WithoutPixel s a
-
--- "the only pixel of its setting that gives it"
-pub record IsOnlyPixel (s : Setting) (a : Triple) (p : Pixel) : Type 0 where
-  pub valid : ValidForAces s
-  pub is-pixel : IsPixel s p
-  pub gives : pixelAces s p ≡ a
-  pub only : (q : Pixel) → IsPixel s q → pixelAces s q ≡ a → q ≡ p
-
--- what the way back over one record gives: a refusal, or the codes of the only pixel
-pub data GivesOnly (s : Setting) (a : Triple) : Result ℕ → Type 0 where
-  refuses : WithoutPixel s a → GivesOnly s a (refusedBy (refusalOf s) 0)
-  returns : (p : Pixel) → IsOnlyPixel s a p → GivesOnly s a (done (codes p))
+-- the exact way back: a pixel "gives the ACES record"
+abbrev pub GivesRecord : List ℕ → Pixel → Type 0
+GivesRecord r p = given (settingOf r) p ≡ r

@@ -20,7 +20,7 @@ pub kind-valid : (k : Kind) (s : Setting) → conversionOf k .setting s ≡ Pass
 kind-valid PixelToScene s e = e
 kind-valid SceneToPixel s e = e
 kind-valid PixelToAces s e = aces-valid s e
-kind-valid AcesToPixel s e = aces-valid s e
+kind-valid (AcesToPixel k) s e = aces-valid s e
 kind-valid AcesToHalf s e = aces-valid s e
 kind-valid HalfToAces s e = aces-valid s e
 kind-valid GradedToPixel s e = aces-valid s e
@@ -30,7 +30,7 @@ pub from-large : (k : Kind) → settingBytes ≤ conversionOf k .from
 from-large PixelToScene = lit≤ tt
 from-large SceneToPixel = lit≤ tt
 from-large PixelToAces = lit≤ tt
-from-large AcesToPixel = lit≤ tt
+from-large (AcesToPixel k) = lit≤ tt
 from-large AcesToHalf = lit≤ tt
 from-large HalfToAces = lit≤ tt
 from-large GradedToPixel = lit≤ tt
@@ -40,7 +40,7 @@ pub kind-long : (k : Kind) (r : List ℕ) → length (conversionOf k .bytes r) �
 kind-long PixelToScene r = length-record numberBytes (settingOf r) _
 kind-long SceneToPixel r = length-record codeBytes (settingOf r) _
 kind-long PixelToAces r = length-record numberBytes (settingOf r) _
-kind-long AcesToPixel r = length-record codeBytes (settingOf r) _
+kind-long (AcesToPixel k) r = length-record codeBytes (settingOf r) _
 kind-long AcesToHalf r = length-record halfBytes (settingOf r) _
 kind-long HalfToAces r = length-record numberBytes (settingOf r) _
 kind-long GradedToPixel r = length-record codeBytes (settingOf r) _

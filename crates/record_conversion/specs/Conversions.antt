@@ -7,6 +7,7 @@ use Rattle.rules.specs.declared.Check.the-variants.{Passed, Refused}
 use Rattle.rules.specs.declared.Setting.{Setting}
 use Rattle.rules.specs.Conversions as rules
 use Rattle.rules.specs.Strip.{Conversion}
+use Rattle.rules.specs.WayBack.{exact, tolerated, distanceOf}
 use Rattle.decode.specs.Decoded.{decoded}
 use Rattle.aces_inverse.specs.Inverse.{candidates}
 use Rattle.record_conversion.specs.declared.Kind.{Kind}
@@ -27,8 +28,15 @@ sceneToPixel = rules.sceneToPixel decoded
 abbrev pub pixelToAces : Conversion
 pixelToAces = rules.pixelToAces decoded
 
+-- the way back of numbers at most e from a pixel's, and so the exact and the tolerant one
+abbrev pub backWithin : (e : ℕ) → Conversion
+backWithin = rules.acesToPixel decoded
+
 abbrev pub acesToPixel : Conversion
-acesToPixel = rules.acesToPixel decoded
+acesToPixel = backWithin exact
+
+abbrev pub acesToPixelTolerant : Conversion
+acesToPixelTolerant = backWithin tolerated
 
 abbrev pub gradedToPixel : Conversion
 gradedToPixel = rules.gradedToPixel candidates decoded
@@ -41,7 +49,7 @@ abbrev pub conversionOf : Kind → Conversion
 conversionOf PixelToScene = pixelToScene
 conversionOf SceneToPixel = sceneToPixel
 conversionOf PixelToAces = pixelToAces
-conversionOf AcesToPixel = acesToPixel
+conversionOf (AcesToPixel k) = backWithin (distanceOf k)
 conversionOf AcesToHalf = rules.acesToHalf
 conversionOf HalfToAces = rules.halfToAces
 conversionOf GradedToPixel = gradedToPixel

@@ -5,12 +5,14 @@ ghost use lib.ListN.{length};
 ghost use Rattle.rules.specs.declared.Check.the-variants.{Passed};
 ghost use Rattle.rules.specs.Record.{settingOf};
 ghost use Rattle.decode.specs.Ready.{Ready};
-ghost use Rattle.record_conversion.specs.Conversions.{acesToPixel, conversionOf, stretchAfter};
+ghost use Rattle.rules.specs.WayBack.{distanceOf};
+ghost use Rattle.record_conversion.specs.Conversions.{backWithin, conversionOf, stretchAfter};
 use decode::decoder::Decoder;
 use records::HALVES_SIZE;
 use records::NUMBERS_SIZE;
 use records::PIXEL_SIZE;
 use rules::Check;
+use rules::Distance;
 use rules::Found;
 use rules::Refusal;
 use rules::Setting;
@@ -18,7 +20,7 @@ use rules::Setting;
 // Which conversion. (The order is for speed: docs/DECISIONS.md.)
 pub enum Kind {
     PixelToAces,
-    AcesToPixel,
+    AcesToPixel(Distance),
     PixelToScene,
     SceneToPixel,
     AcesToHalf,
@@ -33,7 +35,7 @@ pub fn size_from(k: Kind) -> usize
 {
     match k {
         Kind::PixelToAces => PIXEL_SIZE,
-        Kind::AcesToPixel => NUMBERS_SIZE,
+        Kind::AcesToPixel(_) => NUMBERS_SIZE,
         Kind::PixelToScene => PIXEL_SIZE,
         Kind::SceneToPixel => NUMBERS_SIZE,
         Kind::AcesToHalf => NUMBERS_SIZE,
@@ -48,7 +50,7 @@ pub fn size_to(k: Kind) -> usize
 {
     match k {
         Kind::PixelToAces => NUMBERS_SIZE,
-        Kind::AcesToPixel => PIXEL_SIZE,
+        Kind::AcesToPixel(_) => PIXEL_SIZE,
         Kind::PixelToScene => NUMBERS_SIZE,
         Kind::SceneToPixel => PIXEL_SIZE,
         Kind::AcesToHalf => HALVES_SIZE,
@@ -64,7 +66,7 @@ pub fn check_setting(k: Kind, s: Setting) -> Check
 {
     match k {
         Kind::PixelToAces => setting::check_for_aces(s),
-        Kind::AcesToPixel => setting::check_for_aces(s),
+        Kind::AcesToPixel(_) => setting::check_for_aces(s),
         Kind::PixelToScene => setting::check_setting(s),
         Kind::SceneToPixel => setting::check_setting(s),
         Kind::AcesToHalf => setting::check_for_aces(s),
@@ -82,7 +84,7 @@ pub fn check_inner(k: Kind, s: Setting, d: Decoder, t: &[u64; 128], r: &[u8]) ->
 {
     match k {
         Kind::PixelToAces => pixel_record::check_codes(s, r),
-        Kind::AcesToPixel => aces_record::check_triple(s, d, t, r),
+        Kind::AcesToPixel(e) => aces_record::check_triple(e, s, d, t, r),
         Kind::PixelToScene => pixel_record::check_codes(s, r),
         Kind::SceneToPixel => scene_record::check_numbers(s, r),
         Kind::AcesToHalf => Check::Passed,
@@ -101,7 +103,7 @@ pub fn write_record(k: Kind, s: Setting, d: Decoder, t: &[u64; 128], r: &[u8], o
 {
     match k {
         Kind::PixelToAces => aces_record::write_triple(s, d, t, r, out),
-        Kind::AcesToPixel => aces_record::write_back(s, d, t, r, out),
+        Kind::AcesToPixel(_) => aces_record::write_back(s, d, t, r, out),
         Kind::PixelToScene => pixel_record::write_scene(s, d, t, r, out),
         Kind::SceneToPixel => scene_record::write_pixel(s, d, t, r, out),
         Kind::AcesToHalf => half_record::write_halves(s, r, out),
@@ -111,15 +113,22 @@ pub fn write_record(k: Kind, s: Setting, d: Decoder, t: &[u64; 128], r: &[u8], o
     }
 }
 
-// An ACES record on the way back, in one step: its check, refusal 10, and where it passes what is written for it.
-pub fn convert_aces(s: Setting, d: Decoder, t: &[u64; 128], r: &[u8], out: &mut [u8]) -> Check
+// An ACES record on the way back, exact or tolerant, in one step: its check, refusal 10, and where it passes what is written for it.
+pub fn convert_aces(
+    k: Distance,
+    s: Setting,
+    d: Decoder,
+    t: &[u64; 128],
+    r: &[u8],
+    out: &mut [u8],
+) -> Check
     requires { ⌜ Ready s d (now t) ⌝ }
-    requires { ⌜ (s ≡ settingOf (now r)) × (length (now r) ≡ acesToPixel .from) × (acesToPixel .setting s ≡ Passed) ⌝ }
-    requires { ⌜ length (now out) ≡ acesToPixel .to ⌝ }
-    ensures { λ x. ⌜ x ≡ acesToPixel .inner (now (r .entry)) ⌝ }
-    ensures { λ x. ⌜ now (out .exit) ≡ stretchAfter x (acesToPixel .bytes (now (r .entry))) (now (out .entry)) ⌝ }
+    requires { ⌜ (s ≡ settingOf (now r)) × (length (now r) ≡ backWithin (distanceOf k) .from) × (backWithin (distanceOf k) .setting s ≡ Passed) ⌝ }
+    requires { ⌜ length (now out) ≡ backWithin (distanceOf k) .to ⌝ }
+    ensures { λ x. ⌜ x ≡ backWithin (distanceOf k) .inner (now (r .entry)) ⌝ }
+    ensures { λ x. ⌜ now (out .exit) ≡ stretchAfter x (backWithin (distanceOf k) .bytes (now (r .entry))) (now (out .entry)) ⌝ }
 {
-    match way_back::find(s, d, t, records::triple_in(r)) {
+    match way_back::find(k, s, d, t, records::triple_in(r)) {
         Found::Nothing => Check::Refused(Refusal::NoPixel),
         Found::Pixel(p) => {
             records::put_pixel(out, s, p);

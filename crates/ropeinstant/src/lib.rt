@@ -2,7 +2,7 @@
 // and gives the answer as a number and a place; one over a float pixel gives the number, and writes where it is 0. include/ropeinstant.h
 // declares them.
 ghost use mathlib.Core.Path.{_≡_};
-ghost use Rattle.record_conversion.specs.Conversions.{pixelToScene, sceneToPixel, pixelToAces, acesToPixel, gradedToPixel, gradedToScene};
+ghost use Rattle.record_conversion.specs.Conversions.{pixelToScene, sceneToPixel, pixelToAces, acesToPixel, acesToPixelTolerant, gradedToPixel, gradedToScene};
 ghost use Rattle.rules.specs.Conversions.{acesToHalf, halfToAces};
 ghost use Rattle.rules.specs.Result.{stripResult};
 ghost use Rattle.rules.specs.Setting.{topOf};
@@ -68,6 +68,19 @@ pub extern "C" fn ropeinstant_aces_to_pixel(input: &[u8], output: &mut [u8], at:
     ensures { λ _. ⌜ LentBytes (now (input .entry)) (now (output .entry)) (now (output .exit)) ⌝ }
 {
     give(strip::aces_to_pixel(input, output), at)
+}
+
+// The tolerant way back: the same where numbers were moved by a few units.
+#[no_mangle]
+pub extern "C" fn ropeinstant_aces_to_pixel_tolerant(
+    input: &[u8],
+    output: &mut [u8],
+    at: &mut u64,
+) -> u32
+    ensures { λ n. ⌜ Gives acesToPixelTolerant (now (input .entry)) (now (output .entry)) n (now (at .exit)) (now (output .exit)) ⌝ }
+    ensures { λ _. ⌜ LentBytes (now (input .entry)) (now (output .entry)) (now (output .exit)) ⌝ }
+{
+    give(strip::aces_to_pixel_tolerant(input, output), at)
 }
 
 // A strip of ACES records to one of half records.

@@ -12,6 +12,7 @@ pub mod Records
 pub mod Written
 pub mod Channels
 pub mod Closest
+pub mod Within
 pub mod Search
 pub mod Results
 pub mod Between

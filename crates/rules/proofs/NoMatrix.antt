@@ -102,15 +102,15 @@ halfRecordOf width ei h = recordOf halfBytes (record { curve = 2; width = width;
 pub record InPlace (number : Setting → ℕ → ℤ) : Type 0 where
   -- before the codes, and before 10
   pub codes-later : numberOfCheck (recordCheck (pixelToAces number) (pixelOf 12 800 4096)) ≡ 12
-  pub back-ten-later : numberOfCheck (recordCheck (acesToPixel number) (acesRecordOf 12 800)) ≡ 12
+  pub back-ten-later : (e : ℕ) → numberOfCheck (recordCheck (acesToPixel number e) (acesRecordOf 12 800)) ≡ 12
   pub to-half-too : numberOfCheck (recordCheck acesToHalf (acesRecordOf 12 800)) ≡ 12
   -- before 8 (0x7C00 is an infinity)
   pub half-eight-later : numberOfCheck (recordCheck halfToAces (halfRecordOf 12 800 0x7C00)) ≡ 12
   -- after 4 and 5
   pub width-first : numberOfCheck (recordCheck (pixelToAces number) (pixelOf 16 800 0)) ≡ 4
   pub ei-first : numberOfCheck (recordCheck (pixelToAces number) (pixelOf 12 0 0)) ≡ 5
-  pub back-width-first : numberOfCheck (recordCheck (acesToPixel number) (acesRecordOf 16 800)) ≡ 4
-  pub back-ei-first : numberOfCheck (recordCheck (acesToPixel number) (acesRecordOf 12 0)) ≡ 5
+  pub back-width-first : (e : ℕ) → numberOfCheck (recordCheck (acesToPixel number e) (acesRecordOf 16 800)) ≡ 4
+  pub back-ei-first : (e : ℕ) → numberOfCheck (recordCheck (acesToPixel number e) (acesRecordOf 12 0)) ≡ 5
   pub half-width-first : numberOfCheck (recordCheck halfToAces (halfRecordOf 16 800 0x7C00)) ≡ 4
   pub half-ei-first : numberOfCheck (recordCheck halfToAces (halfRecordOf 12 0 0x7C00)) ≡ 5
   pub to-half-width-first : numberOfCheck (recordCheck acesToHalf (acesRecordOf 16 800)) ≡ 4
@@ -126,11 +126,11 @@ in-place number =
       codes-later = refl;
       to-half-too = refl;
       half-eight-later = refl;
-      back-ten-later = refl;
+      back-ten-later = λ e. refl;
       width-first = refl;
       ei-first = refl;
-      back-width-first = refl;
-      back-ei-first = refl;
+      back-width-first = λ e. refl;
+      back-ei-first = λ e. refl;
       half-width-first = refl;
       half-ei-first = refl;
       to-half-width-first = refl;
@@ -148,8 +148,8 @@ module _ (number : Setting → ℕ → ℤ) (s : Setting) (v : Valid s) (two : s
   pub pixel-refused : (r : List ℕ) → settingOf r ≡ s → recordCheck (pixelToAces number) r ≡ Refused NoMatrix
   pixel-refused r e = rw (e, no-matrix)
 
-  pub aces-refused : (r : List ℕ) → settingOf r ≡ s → recordCheck (acesToPixel number) r ≡ Refused NoMatrix
-  aces-refused r e = rw (e, no-matrix)
+  pub aces-refused : (e : ℕ) (r : List ℕ) → settingOf r ≡ s → recordCheck (acesToPixel number e) r ≡ Refused NoMatrix
+  aces-refused e r h = rw (h, no-matrix)
 
   pub written-half-refused : (r : List ℕ) → settingOf r ≡ s → recordCheck acesToHalf r ≡ Refused NoMatrix
   written-half-refused r e = rw (e, no-matrix)
@@ -164,8 +164,8 @@ module _ (number : Setting → ℕ → ℤ) (s : Setting) (v : Valid s) (two : s
   pub graded-call-refused : (scenesFor : Setting → Triple → Scenes) (a : Triple) → gradedBy scenesFor s a .number ≡ 12
   graded-call-refused scenesFor a = rw no-matrix
 
-  pub way-back-refused : (a : Triple) → wayBackBy number s a .number ≡ 12
-  way-back-refused a = rw no-matrix
+  pub way-back-refused : (e : ℕ) (a : Triple) → wayBackBy number s e a .number ≡ 12
+  way-back-refused e a = rw no-matrix
 
 -- ---- what has no matrix by `hasMatrix` has none by `matrixFor`
 pub none-for : (c : CurveName) → hasMatrix c ≡ false → matrixFor c ≡ noMatrix

@@ -2,18 +2,13 @@
 -- the same by any numbers of the codes that agree.
 -- Assumes nothing.
 use mathlib.Core.Bool.{Bool, true, false}
-use mathlib.Core.Logic.{_↔_}
 use mathlib.Core.Path.{_≡_, refl, sym, ap, ap₂, _∙_, subst}
-use Prim.Native.Nat.{ℕ, zero, suc, _+_, _≤_}
+use Prim.Native.Nat.{ℕ, zero, suc, _≤_}
 use native.Mathlib.Nat.{le-refl}
 use native.Mathlib.Omega.{arith}
 use borrow.Author.Tests.{leb-true, leb-false}
-use lib.Dec.{T, leb}
-use lib.Ieee.Bits.{is-true}
-use lib.IntN.{ℤ, pos, _+ℤ_}
-use lib.Signed.{leZ}
-use Rattle.whole.proofs.Reflect.{at, add, leN-of, leZ-of}
-use Rattle.whole.proofs.Near.{Near, near-same, same-near}
+use lib.Dec.{leb}
+use lib.IntN.{ℤ}
 use Rattle.rules.specs.declared.Setting.{Setting}
 use Rattle.rules.specs.declared.Pixel.{Pixel}
 use Rattle.rules.specs.declared.Triple.{Triple}
@@ -22,75 +17,11 @@ use Rattle.rules.specs.declared.Found as found
 use Rattle.rules.specs.Choice.{choose}
 use Rattle.rules.specs.Setting.{codeAt, stepOf, lastOf, codeCheck}
 use Rattle.rules.specs.Matrix.{Matrix, matrixOf, acesNumber}
-use Rattle.rules.specs.WayBack.{within, within3, orElse, firstFound, tried, pixelWith, pixelBy}
+use Rattle.rules.specs.WayBack.{within3, orElse, firstFound, tried, pixelWith, pixelBy, exact}
 use Rattle.rules.specs.Pixels.{pixel, triple, acesOf, acesBy}
 use Rattle.rules.specs.declared.Check.the-variants.{Passed}
+use Rattle.rules.proofs.Within.{NearTriple, within3-near, near-within3, triple-same}
 use Rattle.rules.proofs.Codes.{code-of-step, code-passed, code-passes}
-
--- ---- numbers at most e apart
-both : (b c : Bool) → choose b c false ≡ true → (b ≡ true) × (c ≡ true)
-both true true e = (refl, refl)
-both true false e = absurd (subst T (sym e) tt)
-both false c e = absurd (subst T (sym e) tt)
-
-pub within-near : (e : ℕ) (x y : ℤ) → within e x y ≡ true → Near x y e
-within-near e x y t =
-    let h = both (leZ x (y +ℤ pos e)) (leZ y (x +ℤ pos e)) t in
-    record {
-      high = omega (arith, leN-of (at x) (add (at y) (at (pos e))) (record { le = subst T (sym (h .0)) tt }));
-      low = omega (arith, leN-of (at y) (add (at x) (at (pos e))) (record { le = subst T (sym (h .1)) tt }));
-    }
-
-pub near-within : (e : ℕ) (x y : ℤ) → Near x y e → within e x y ≡ true
-near-within e x y n =
-    let h = is-true (leZ x (y +ℤ pos e)) (leZ-of (at x) (add (at y) (at (pos e))) (omega (arith, n .high)) .le) in
-    let l = is-true (leZ y (x +ℤ pos e)) (leZ-of (at y) (add (at x) (at (pos e))) (omega (arith, n .low)) .le) in
-    rw (h, l)
-
--- at distance 0 they are equal
-pub within-equal : (x y : ℤ) → (within 0 x y ≡ true) ↔ (x ≡ y)
-within-equal x y = (λ t. near-same (within-near 0 x y t), λ h. near-within 0 x y (same-near h))
-
--- three numbers, each at most e from its own of three others
-pub record NearTriple (a b : Triple) (e : ℕ) : Type 0 where
-  pub red : Near (a .red .0) (b .red .0) e
-  pub green : Near (a .green .0) (b .green .0) e
-  pub blue : Near (a .blue .0) (b .blue .0) e
-
-pub within3-near : (e : ℕ) (a b : Triple) → within3 e a b ≡ true → NearTriple a b e
-unfolding within3
-within3-near e a b t =
-    let r = both (within e (a .red .0) (b .red .0)) (choose (within e (a .green .0) (b .green .0)) (within e (a .blue .0) (b .blue .0)) false) t in
-    let g = both (within e (a .green .0) (b .green .0)) (within e (a .blue .0) (b .blue .0)) (r .1) in
-    record {
-      red = within-near e (a .red .0) (b .red .0) (r .0);
-      green = within-near e (a .green .0) (b .green .0) (g .0);
-      blue = within-near e (a .blue .0) (b .blue .0) (g .1);
-    }
-
-pub near-within3 : (e : ℕ) (a b : Triple) → NearTriple a b e → within3 e a b ≡ true
-unfolding within3
-near-within3 e a b n =
-    rw (near-within e (a .red .0) (b .red .0) (n .red), near-within e (a .green .0) (b .green .0) (n .green), near-within e (a .blue .0) (b .blue .0) (n .blue))
-
--- at distance 0 they are equal
-pub triple-same : {a b : Triple} → NearTriple a b 0 → a ≡ b
-triple-same n =
-    let r = near-same (n .red) in
-    let g = near-same (n .green) in
-    let b = near-same (n .blue) in
-    λ i. record { red = record { 0 = r i }; green = record { 0 = g i }; blue = record { 0 = b i } }
-
-pub same-triple : {a b : Triple} → a ≡ b → NearTriple a b 0
-same-triple h =
-    record {
-      red = same-near (ap (λ (t : Triple). t .red .0) h);
-      green = same-near (ap (λ (t : Triple). t .green .0) h);
-      blue = same-near (ap (λ (t : Triple). t .blue .0) h);
-    }
-
-pub within3-equal : (a b : Triple) → (within3 0 a b ≡ true) ↔ (a ≡ b)
-within3-equal a b = (λ t. triple-same (within3-near 0 a b t), λ h. near-within3 0 a b (same-triple h))
 
 -- ---- what is found
 abbrev IsPixelOrNot : Found → Type 0
@@ -215,10 +146,14 @@ module _ (e : ℕ) (number : ℕ → ℤ) (m : Matrix) (code : ℕ → ℕ) (las
       go (found.Found.Pixel q) f = absurd (never q (found-gives q f))
       go found.Found.Nothing f = refl
 
--- THE EXACT WAY BACK finds a pixel with exactly that triple, whatever numbers the codes have
-pub exact-found : (number : Setting → ℕ → ℤ) (s : Setting) (a : Triple) (p : Pixel) → pixelBy number s a ≡ found.Found.Pixel p → acesBy number s p ≡ a
+-- A WAY BACK finds a pixel whose triple is at most so far from the given one in every channel, and THE EXACT one a pixel with exactly that triple,
+-- whatever numbers the codes have
+pub near-found : (e : ℕ) (number : Setting → ℕ → ℤ) (s : Setting) (a : Triple) (p : Pixel) → pixelBy e number s a ≡ found.Found.Pixel p → NearTriple a (acesBy number s p) e
 unfolding pixelBy
-exact-found number s a p f = sym (triple-same (found-gives 0 (number s) (matrixOf s) (codeAt s) (lastOf s) a p f .numbers))
+near-found e number s a p f = found-gives e (number s) (matrixOf s) (codeAt s) (lastOf s) a p f .numbers
+
+pub exact-found : (number : Setting → ℕ → ℤ) (s : Setting) (a : Triple) (p : Pixel) → pixelBy exact number s a ≡ found.Found.Pixel p → acesBy number s p ≡ a
+exact-found number s a p f = sym (triple-same (near-found exact number s a p f))
 
 -- ---- numbers that agree on the codes give the same ACES numbers, and the same pixel is found
 pub same-aces : (number other : ℕ → ℤ) (m : Matrix) (p : Pixel) → number (p .red .0) ≡ other (p .red .0) → number (p .green .0) ≡ other (p .green .0) → number (p .blue .0) ≡ other (p .blue .0)

@@ -1,4 +1,4 @@
--- 01, "Refused, by the place of the check" and "Float pixels and the lister", and 02, item 7: what the calls on one code, number, pixel or record
+-- 01, "Refused, by the place of the check" and "Float pixels and the lister", and 02, items 7 and 8: what the calls on one code, number, pixel or record
 -- give: values, or the refusal of the first check that fails. The numbers of the codes are a parameter, and so is the scene triple of graded numbers.
 -- Assumes nothing.
 use mathlib.Core.List.{List, [], _∷_}
@@ -42,9 +42,9 @@ module _ (number : Setting → ℕ → ℤ) (s : Setting) where
     pub nearest : IsNearest (numberAt number s) (lastOf s) x step
     pub two-thirds : TwoThirds (scaleOf s) x step
 
-  -- the way back over one record: 3, 4, 5, 12, then 10
-  abbrev pub wayBackBy : Triple → Result ℕ
-  wayBackBy a = single (then (acesCheck s) (foundCheck (pixelBy number s a))) (codesFound (pixelBy number s a))
+  -- the way back over one record, of numbers at most e from a pixel's: 3, 4, 5, 12, then 10
+  abbrev pub wayBackBy : (e : ℕ) → Triple → Result ℕ
+  wayBackBy e a = single (then (acesCheck s) (foundCheck (pixelBy e number s a))) (codesFound (pixelBy e number s a))
 
   -- "Decoding one pixel answers either that float pixel or a refusal number": 3, 4, 5, then 13, 11 and 6 for red, green and blue
   abbrev pub decodeFloatsBy : Pixel → Result Float

@@ -1,6 +1,6 @@
 -- 01, "Records and settings": "The strip conversions are pixel to scene (decoding), scene to pixel (encoding), pixel to ACES, and ACES to pixel
--- (the way back).", 02, item 6: "strip conversions from ACES records" to half records "and back", and item 7: "the strip conversion" of graded
--- numbers: what each checks of a record's setting, what it checks of the record after it, and what it writes. The numbers of the codes are a
+-- (the way back).", 02, item 6: "strip conversions from ACES records" to half records "and back", item 7: "the strip conversion" of graded
+-- numbers, and item 8: "a tolerant way back": what each checks of a record's setting, what it checks of the record after it, and what it writes. The numbers of the codes are a
 -- parameter, and so is the scene triple of graded numbers.
 -- Assumes nothing.
 use mathlib.Core.List.{List}
@@ -99,15 +99,15 @@ module _ (number : Setting → ℕ → ℤ) where
         bytes = λ r. acesRecord (settingOf r) (acesBy number (settingOf r) (pixelIn r));
       }
 
-  -- "ACES to pixel (the way back)": the pixel that gives the record
-  abbrev pub acesToPixel : Conversion
-  acesToPixel =
+  -- "ACES to pixel (the way back)": the pixel that gives the record, or numbers at most e from its own
+  abbrev pub acesToPixel : (e : ℕ) → Conversion
+  acesToPixel e =
       record {
         from = sizeOf numberBytes;
         to = sizeOf codeBytes;
         setting = acesCheck;
-        inner = λ r. foundCheck (pixelBy number (settingOf r) (tripleIn r));
-        bytes = λ r. pixelRecord (settingOf r) (pixelFound (pixelBy number (settingOf r) (tripleIn r)));
+        inner = λ r. foundCheck (pixelBy e number (settingOf r) (tripleIn r));
+        bytes = λ r. pixelRecord (settingOf r) (pixelFound (pixelBy e number (settingOf r) (tripleIn r)));
       }
 
 -- ---- 02, item 7, where a setting and a graded triple have this scene triple

@@ -1,11 +1,14 @@
--- 01, "ACES and the way back": the pixel that gives three numbers. Of a setting it needs its codes, the decoded number of each, and the matrix.
+-- 01, "ACES and the way back", and 02, item 8: the pixel that gives three numbers, exactly or nearly. Of a setting it needs its codes, the decoded
+-- number of each, and the matrix.
 -- Assumes nothing.
 use mathlib.Core.Bool.{Bool, false}
 use mathlib.Core.List.{List, []}
-use Prim.Native.Nat.{ℕ, zero, suc}
-use lib.IntN.{ℤ, pos, _+ℤ_}
+use Prim.Native.Nat.{ℕ, zero, suc, _≤_}
+use lib.IntN.{ℤ, pos, natAbs, _+ℤ_, _-ℤ_}
 use lib.Signed.{leZ}
 use Rattle.rules.specs.declared.Check.{Check}
+use Rattle.rules.specs.declared.Distance.{Distance}
+use Rattle.rules.specs.declared.Distance.the-variants.{Exact, Tolerant}
 use Rattle.rules.specs.declared.Check.the-variants.{Passed, Refused}
 use Rattle.rules.specs.declared.Refusal.the-variants.{NoPixel}
 use Rattle.rules.specs.declared.Setting.{Setting}
@@ -43,17 +46,38 @@ tried e number m a p = choose (within3 e a (acesOf number m p)) (found.Found.Pix
 unfoldable pub pixelWith : (e : ℕ) → (number : ℕ → ℤ) → Matrix → (code : ℕ → ℕ) → (last : ℕ) → Triple → Found
 pixelWith e number m code last a = firstFound (λ r. firstFound (λ g. firstFound (λ b. tried e number m a (pixel (code r) (code g) (code b))) last) last) last
 
--- "The way back takes any three signed numbers and returns the pixel of that setting with exactly that ACES triple": at distance 0. Its
--- codes have these numbers
-unfoldable pub pixelBy : (number : Setting → ℕ → ℤ) → Setting → Triple → Found
-pixelBy number s a = pixelWith 0 (number s) (matrixOf s) (codeAt s) (lastOf s) a
+-- of the pixels of a setting, whose codes have these numbers
+unfoldable pub pixelBy : (e : ℕ) → (number : Setting → ℕ → ℤ) → Setting → Triple → Found
+pixelBy e number s a = pixelWith e (number s) (matrixOf s) (codeAt s) (lastOf s) a
+
+-- "The way back takes any three signed numbers and returns the pixel of that setting with exactly that ACES triple"
+abbrev pub exact : ℕ
+exact = 0
+
+-- 02, item 8: "a tolerant way back: it returns the pixel whose ACES triple is within five units in every channel"
+abbrev pub tolerated : ℕ
+tolerated = 5
+
+abbrev pub distanceOf : Distance → ℕ
+distanceOf Exact = exact
+distanceOf Tolerant = tolerated
 
 -- the codes of what is found
 abbrev pub codesFound : Found → List ℕ
 codesFound (found.Found.Pixel p) = codes p
 codesFound found.Found.Nothing = []
 
--- refusal 10: "no pixel of this setting has this triple"
+-- refusal 10: "no pixel of this setting has this triple"; of the tolerant way back "exactly when there is none"
 abbrev pub foundCheck : Found → Check
 foundCheck (found.Found.Pixel p) = Passed
 foundCheck found.Found.Nothing = Refused NoPixel
+
+-- ---- 02, item 8: "two different pixels of one setting always differ by at least 12 units in some ACES channel"
+abbrev pub apart : ℕ
+apart = 12
+
+-- two triples differ by at least d units in some channel
+pub data Differ (d : ℕ) (a b : Triple) : Type 0 where
+  in-red : d ≤ natAbs (a .red .0 -ℤ b .red .0) → Differ d a b
+  in-green : d ≤ natAbs (a .green .0 -ℤ b .green .0) → Differ d a b
+  in-blue : d ≤ natAbs (a .blue .0 -ℤ b .blue .0) → Differ d a b

@@ -51,6 +51,12 @@ pub struct Scenes {
     pub blue: Scene,
 }
 
+// How far the numbers of a record may be from those of the pixel that a way back finds: not at all, or as far as the tolerant one allows.
+pub enum Distance {
+    Exact,
+    Tolerant,
+}
+
 // What the way back finds.
 pub enum Found {
     Pixel(Pixel),

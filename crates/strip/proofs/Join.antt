@@ -5,13 +5,14 @@ use mathlib.Core.List.{List, [], _∷_, _++_, append-assoc, append-nil}
 use Prim.Native.Nat.{ℕ, suc, _+_, _-_, _*_, _/_, _%_, _≤_, _<_}
 use native.Mathlib.Nat.{zero-mul, add-suc, add-zero, add-mul, mul-div-cancel, mul-mod-left}
 use native.Mathlib.Omega.{arith}
-use borrow.Author.Tests.{eq-eqb, le-leb}
+use borrow.Author.Tests.{eq-eqb, le-leb, lt-leb}
 use lib.ListN.{length, drop, length-append, drop-of-length-le}
 use lib.Seq.{drop-append-add}
 use Rattle.rules.specs.declared.Answer.{Answer}
 use Rattle.rules.specs.declared.Answer.the-variants.{Done, Refused}
 use Rattle.rules.specs.declared.Check.{Check}
 use Rattle.rules.specs.declared.Check as check
+use Rattle.rules.specs.declared.Refusal.the-variants.{ShortOutput}
 use Rattle.rules.specs.Strip.{Conversion, recordCheck, records, written, orNext, scan, scanOf, answerOf, outputAfter, Converts}
 use Rattle.strip.specs.Join.{moved, followed}
 use Rattle.strip_passes.proofs.Cut.{records-append, written-append}
@@ -55,6 +56,14 @@ whole-answer c input output n p e room =
     let d : length input / c .from ≡ n = rw e (mul-div-cancel n p) in
     let z : length input % c .from ≡ 0 = rw e (mul-mod-left n (c .from)) in
     rw (eq-eqb _ 0 z, d, le-leb _ _ room)
+
+-- and without room
+pub short-answer : (c : Conversion) (input output : List ℕ) (n : ℕ) → 0 < c .from → length input ≡ n * c .from → length output < n * c .to → answerOf c input output ≡ Refused ShortOutput 0
+unfolding answerOf
+short-answer c input output n p e short =
+    let d : length input / c .from ≡ n = rw e (mul-div-cancel n p) in
+    let z : length input % c .from ≡ 0 = rw e (mul-mod-left n (c .from)) in
+    rw (eq-eqb _ 0 z, d, lt-leb _ _ short)
 
 -- EMPTY INPUT succeeds with 0, and leaves the output as it was
 pub empty-input : (c : Conversion) (output : List ℕ) → 0 < c .from → Converts c [] output (Done 0) output

@@ -3,13 +3,15 @@
 ghost use mathlib.Core.Path.{_≡_};
 ghost use Rattle.rules.specs.Conversions.{acesToHalf, halfToAces};
 ghost use Rattle.rules.specs.Strip.{Converts};
-ghost use Rattle.record_conversion.specs.Conversions.{pixelToScene, sceneToPixel, pixelToAces, acesToPixel, gradedToPixel, gradedToScene, conversionOf};
+ghost use Rattle.rules.specs.WayBack.{distanceOf};
+ghost use Rattle.record_conversion.specs.Conversions.{pixelToScene, sceneToPixel, pixelToAces, backWithin, acesToPixel, acesToPixelTolerant, gradedToPixel, gradedToScene, conversionOf};
 ghost use Rattle.strip.specs.Lent.{LentBytes};
 ghost use Rattle.strip.specs.Writable.{writable};
 use record_conversion::Kind;
 use records::NUMBERS_SIZE;
 use records::PIXEL_SIZE;
 use rules::Answer;
+use rules::Distance;
 use rules::Refusal;
 
 // The least records that the way back takes in one pass. For fewer the two passes are done before a buffer is made.
@@ -67,9 +69,9 @@ pub fn pixel_to_aces(input: &[u8], output: &mut [u8]) -> Answer
     convert(Kind::PixelToAces, input, output)
 }
 
-// The way back: a strip of ACES records to the one of pixel records that gives it.
-pub fn aces_to_pixel(input: &[u8], output: &mut [u8]) -> Answer
-    ensures { λ a. ⌜ Converts acesToPixel (now (input .entry)) (now (output .entry)) a (now (output .exit)) ⌝ }
+// A way back: a short strip in one pass, any other in two.
+fn take_back(k: Distance, input: &[u8], output: &mut [u8]) -> Answer
+    ensures { λ a. ⌜ Converts (backWithin (distanceOf k)) (now (input .entry)) (now (output .entry)) a (now (output .exit)) ⌝ }
     ensures { λ _. ⌜ LentBytes (now (input .entry)) (now (output .entry)) (now (output .exit)) ⌝ }
 {
     let n = input.len() / NUMBERS_SIZE;
@@ -78,9 +80,25 @@ pub fn aces_to_pixel(input: &[u8], output: &mut [u8]) -> Answer
         && input.len() % NUMBERS_SIZE == 0
         && n * PIXEL_SIZE <= output.len()
     {
-        return strip_one_pass::aces_to_pixel(input, n, output);
+        return strip_one_pass::aces_to_pixel(k, input, n, output);
     }
-    convert(Kind::AcesToPixel, input, output)
+    convert(Kind::AcesToPixel(k), input, output)
+}
+
+// The way back: a strip of ACES records to the one of pixel records that gives it.
+pub fn aces_to_pixel(input: &[u8], output: &mut [u8]) -> Answer
+    ensures { λ a. ⌜ Converts acesToPixel (now (input .entry)) (now (output .entry)) a (now (output .exit)) ⌝ }
+    ensures { λ _. ⌜ LentBytes (now (input .entry)) (now (output .entry)) (now (output .exit)) ⌝ }
+{
+    take_back(Distance::Exact, input, output)
+}
+
+// The tolerant way back: a strip of ACES records to the one of pixel records whose ACES numbers are near those of the input.
+pub fn aces_to_pixel_tolerant(input: &[u8], output: &mut [u8]) -> Answer
+    ensures { λ a. ⌜ Converts acesToPixelTolerant (now (input .entry)) (now (output .entry)) a (now (output .exit)) ⌝ }
+    ensures { λ _. ⌜ LentBytes (now (input .entry)) (now (output .entry)) (now (output .exit)) ⌝ }
+{
+    take_back(Distance::Tolerant, input, output)
 }
 
 // A strip of ACES records to one of half records. Pixels that differ may have one half record: a half strip is no master.

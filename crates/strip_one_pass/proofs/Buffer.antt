@@ -11,28 +11,30 @@ use Rattle.rules.specs.declared.Answer.{Answer}
 use Rattle.rules.specs.declared.Answer.the-variants.{Done, Refused}
 use Rattle.rules.specs.declared.Refusal.{Refusal}
 use Rattle.rules.specs.Strip.{records, written}
+use Rattle.rules.specs.declared.Distance.{Distance}
+use Rattle.rules.specs.WayBack.{distanceOf}
 use Rattle.record_conversion.specs.declared.Kind.the-variants.{AcesToPixel}
-use Rattle.record_conversion.specs.Conversions.{acesToPixel}
+use Rattle.record_conversion.specs.Conversions.{backWithin}
 use Rattle.record_conversion.proofs.EveryKind.{kind-long}
 use Rattle.strip_passes.proofs.Cut.{length-written}
 use Rattle.strip_passes.proofs.FirstPass.{done-is, never}
 use Rattle.strip_passes.proofs.SecondPass.{Filled}
 use Rattle.strip_one_pass.specs.Kept.{Kept}
 
-pub refused-keeps : {input after : List ℕ} (why : Refusal) (k : ℕ) → Kept input (Refused why k) after
+pub refused-keeps : {e : ℕ} {input after : List ℕ} (why : Refusal) (k : ℕ) → Kept e input (Refused why k) after
 refused-keeps why k = record { pixels = λ m e. never (sym e) }
 
-pub all-kept : (n : ℕ) (input buffer after : List ℕ) (i : ℕ) → Filled acesToPixel n input buffer i after → Kept input (Done i) after
-all-kept n input buffer after i w =
-    record { pixels = λ m e. subst (λ (k : ℕ). take (k * acesToPixel .to) after ≡ written (acesToPixel .bytes) (records (acesToPixel .from) k input)) (done-is e) here }
+pub all-kept : (d : Distance) (n : ℕ) (input buffer after : List ℕ) (i : ℕ) → Filled (backWithin (distanceOf d)) n input buffer i after → Kept (distanceOf d) input (Done i) after
+all-kept d n input buffer after i w =
+    record { pixels = λ m e. subst (λ (k : ℕ). take (k * backWithin (distanceOf d) .to) after ≡ written (backWithin (distanceOf d) .bytes) (records (backWithin (distanceOf d) .from) k input)) (done-is e) here }
   where
     pixels : List ℕ
-    pixels = written (acesToPixel .bytes) (records (acesToPixel .from) i input)
+    pixels = written (backWithin (distanceOf d) .bytes) (records (backWithin (distanceOf d) .from) i input)
 
-    here : take (i * acesToPixel .to) after ≡ pixels
+    here : take (i * backWithin (distanceOf d) .to) after ≡ pixels
     here =
-        ap (take (i * acesToPixel .to)) (w .is)
-        ∙ take-at pixels (drop (i * acesToPixel .to) buffer) (i * acesToPixel .to) (length-written (acesToPixel .bytes) (acesToPixel .to) (kind-long AcesToPixel) (acesToPixel .from) i input)
+        ap (take (i * backWithin (distanceOf d) .to)) (w .is)
+        ∙ take-at pixels (drop (i * backWithin (distanceOf d) .to) buffer) (i * backWithin (distanceOf d) .to) (length-written (backWithin (distanceOf d) .bytes) (backWithin (distanceOf d) .to) (kind-long (AcesToPixel d)) (backWithin (distanceOf d) .from) i input)
 
 -- the first k bytes of a buffer, copied into a strip
 pub copied : (buffer out : List ℕ) {after want : List ℕ} (k : ℕ) → k ≤ length buffer

@@ -7,12 +7,12 @@ use lib.ListN.{take}
 use Rattle.rules.specs.declared.Answer.{Answer}
 use Rattle.rules.specs.declared.Answer.the-variants.{Done}
 use Rattle.rules.specs.Strip.{records, written}
-use Rattle.record_conversion.specs.Conversions.{acesToPixel}
+use Rattle.record_conversion.specs.Conversions.{backWithin}
 
 -- the most records
 abbrev pub most : ℕ
 most = 4096
 
--- where no record was refused, the buffer begins with the records of all pixels
-pub record Kept (input : List ℕ) (a : Answer) (after : List ℕ) : Type 0 where
-  pub pixels : (m : ℕ) → a ≡ Done m → take (m * acesToPixel .to) after ≡ written (acesToPixel .bytes) (records (acesToPixel .from) m input)
+-- where no record was refused, the buffer begins with the records of all pixels, of the way back at the distance e
+pub record Kept (e : ℕ) (input : List ℕ) (a : Answer) (after : List ℕ) : Type 0 where
+  pub pixels : (m : ℕ) → a ≡ Done m → take (m * backWithin e .to) after ≡ written (backWithin e .bytes) (records (backWithin e .from) m input)

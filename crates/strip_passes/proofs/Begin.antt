@@ -20,7 +20,7 @@ unfolding settingCheck acesCheck
 first-passes PixelToScene = refl
 first-passes SceneToPixel = refl
 first-passes PixelToAces = refl
-first-passes AcesToPixel = refl
+first-passes (AcesToPixel k) = refl
 first-passes AcesToHalf = refl
 first-passes HalfToAces = refl
 first-passes GradedToPixel = refl

@@ -1,8 +1,9 @@
-// The way back of one record, called for each ACES record of standard input. A line is printed for each: the three codes of the pixel that
-// gives it, or `refused` and the refusal's number. Bytes short of a record at the end are left.
+// The ways back of one record, called for each ACES record of standard input. A line is printed for each: what the exact one gives, ` | `, and what
+// the tolerant one gives, each the three codes of a pixel, or `refused` and the refusal's number. Bytes short of a record at the end are left.
 use libc::STDIN_FILENO;
 use libc::STDOUT_FILENO;
 use records::NUMBERS_SIZE;
+use rules::Distance;
 use rules::Pixel;
 use way_back::Back;
 
@@ -22,7 +23,6 @@ fn print_answer(a: Back) {
             io::print_decimal(STDOUT_FILENO, setting::refusal_number(why) as u64);
         }
     }
-    io::write_all(STDOUT_FILENO, b"\n");
 }
 
 // One record: whether there may be another.
@@ -31,7 +31,12 @@ fn one() -> bool {
     if io::read_full(STDIN_FILENO, &mut r) < NUMBERS_SIZE {
         return false;
     }
-    print_answer(way_back::way_back(records::setting_of(&r), records::triple_in(&r)));
+    let s = records::setting_of(&r);
+    let a = records::triple_in(&r);
+    print_answer(way_back::way_back(Distance::Exact, s, a));
+    io::write_all(STDOUT_FILENO, b" | ");
+    print_answer(way_back::way_back(Distance::Tolerant, s, a));
+    io::write_all(STDOUT_FILENO, b"\n");
     true
 }
 

@@ -1,27 +1,34 @@
--- The candidate is the only pixel that can give three ACES numbers; so trying it says what gives them.
+-- The candidate is the only pixel that can give three ACES numbers, or numbers at most e from them; so trying it says what gives them. And so two
+-- pixels whose numbers are at most 2 e apart are one.
 -- Assumes nothing.
 use mathlib.Core.Bool.{Bool, true, false}
 use mathlib.Core.Path.{_≡_, refl, sym, ap, _∙_, subst}
 use Prim.Native.Nat.{ℕ, _+_, _*_, _^_, _<_, _≤_}
-use lib.Dec.{T, ltb, ltb→lt, lit<, lit≤}
+use lib.Dec.{T, leb, ltb, leb→le, ltb→lt, lit<}
 use lib.IntN.{ℤ, natAbs}
 use Rattle.whole.proofs.Near.{Near, near-join}
 use Rattle.rules.specs.declared.Pixel.{Pixel}
+use Rattle.rules.specs.declared.CurveName.{CurveName}
+use Rattle.rules.specs.declared.CurveName.the-variants.{LogC3, LogC4}
+use Rattle.rules.specs.declared.Distance.{Distance}
+use Rattle.rules.specs.declared.Distance.the-variants.{Exact, Tolerant}
 use Rattle.rules.specs.declared.Setting.{Setting}
 use Rattle.rules.specs.declared.Triple.{Triple}
 use Rattle.rules.specs.declared.Check.the-variants.{Passed}
 use Rattle.rules.specs.declared.Found.{Found}
 use Rattle.rules.specs.declared.Found as found
-use Rattle.rules.specs.Setting.{codeAt, lastOf, codeCheck, Valid, ValidForAces}
+use Rattle.rules.specs.Setting.{codeAt, lastOf, codeCheck, ValidForAces}
 use Rattle.rules.specs.Decoding.{DecodesCode}
 use Rattle.rules.specs.Matrix.{matrixOf}
 use Rattle.rules.specs.Choice.{choose}
-use Rattle.rules.specs.WayBack.{within3, tried, pixelWith, foundCheck}
-use Rattle.rules.proofs.Settings.{for-valid, aces-valid, refused-never}
+use Rattle.rules.specs.WayBack.{within3, tried, pixelWith, foundCheck, exact, tolerated, distanceOf}
+use Rattle.rules.proofs.Settings.{for-aces, aces-valid, refused-never}
 use Rattle.rules.proofs.Bounds.{allowedApart}
+use Rattle.rules.proofs.Within.{NearTriple, within3-near, near-within3, middleTriple, middle-triple}
 use Rattle.rules.proofs.Search as search
 use Rattle.decode.specs.Decoded.{decoded}
-use Rattle.decode.specs.Gap.{gapOf}
+use Rattle.decode.specs.Gap as decode
+use Rattle.curves.specs.Gap.{gapOf}
 use Rattle.decode.proofs.Distance.{decodes-near, decodes-small}
 use Rattle.decode.proofs.Theorems.{decoding}
 use Rattle.encode.proofs.Theorems.{encoded-passes, encode-near}
@@ -31,17 +38,26 @@ use Rattle.aces_inverse.specs.Inverse.{candidate}
 use Rattle.aces_inverse.proofs.Inverse.{near-aces-small, candidate-near}
 use Rattle.way_back.specs.Candidate.{codeFor, candidatePixel, allInReach}
 use Rattle.way_back.proofs.Reach.{given-reached, reached-given}
-use Rattle.rules.specs.Pixels.{IsPixel, Small3}
+use Rattle.rules.specs.Pixels.{IsPixel, Small3, acesOf}
 use Rattle.aces.specs.OfPixel.{pixelAces}
 
 -- a distance e at which numbers still tell the pixel: the inverse leads to within 2 e + 1 units of the number of a code, which is as far from
 -- its decoded number as the rules allow, and less than half the gap of the curve from it is nearer than to any other
 abbrev pub NearEnough : (e : ℕ) → Setting → Type 0
-NearEnough e s = (2 * (2 * e + 1 + allowedApart) < gapOf s) × (e ≤ farthest)
+NearEnough e s = (2 * (2 * e + 1 + allowedApart) < decode.gapOf s) × (e ≤ farthest)
 
-pub exact-enough : (s : Setting) → Valid s → NearEnough 0 s
-exact-enough s v =
-    (ltb→lt (2 * (1 + allowedApart)) (gapOf s) (for-valid (λ c w i. ltb (2 * (1 + allowedApart)) (gapOf (record { curve = c; width = w; ei = i }))) tt s v), lit≤ tt)
+-- the test of a distance, which computes for each curve
+abbrev enough : (e : ℕ) → CurveName → Bool
+enough e c = ltb (2 * (2 * e + 1 + allowedApart)) (gapOf c)
+
+pub enough-for : (e : ℕ) → T (enough e LogC3) → T (enough e LogC4) → T (leb e farthest) → (s : Setting) → ValidForAces s → NearEnough e s
+enough-for e three four near s v =
+    (ltb→lt (2 * (2 * e + 1 + allowedApart)) (decode.gapOf s) (for-aces (λ c. T (enough e c)) three four s v), leb→le e farthest near)
+
+-- both ways back are at such a distance
+pub near-enough : (k : Distance) (s : Setting) → ValidForAces s → NearEnough (distanceOf k) s
+near-enough Exact = enough-for exact tt tt tt
+near-enough Tolerant = enough-for tolerated tt tt tt
 
 -- ---- by any numbers that the rules allow for the codes of the setting
 abbrev pub GivesBy : (e : ℕ) (number : ℕ → ℤ) → Setting → Triple → Pixel → Type 0
@@ -75,11 +91,34 @@ module _ (s : Setting) (v : ValidForAces s) (number : ℕ → ℤ) (allowed : (n
       let b = code-by 2 (q .blue .0) (search.code-checked s (q .blue .0) (g .blue)) (candidate-near s v _ _ _ scenes-small e (t .1) a (g .numbers) 2 (lit< tt)) in
       λ i. record { red = record { 0 = sym r i }; green = record { 0 = sym u i }; blue = record { 0 = sym b i } }
 
+-- a pixel of the setting that gives such numbers, as a search finds it
+gives-by : (s : Setting) (number : ℕ → ℤ) (e : ℕ) (a : Triple) (p : Pixel) → IsPixel s p → NearTriple a (acesOf number (matrixOf s) p) e → GivesBy e number s a p
+gives-by s number e a p i n =
+    record {
+      red = search.own-code s (p .red .0) (i .red);
+      green = search.own-code s (p .green .0) (i .green);
+      blue = search.own-code s (p .blue .0) (i .blue);
+      numbers = n;
+    }
+
+-- TWO PIXELS whose numbers are at most 2 e apart in every channel are one: the triple in the middle is at most e from both
+pub one-by : (s : Setting) → ValidForAces s → (number : ℕ → ℤ) → ((n : ℕ) → codeCheck s n ≡ Passed → DecodesCode s n (number n)) → (e : ℕ) → NearEnough e s
+    → (p q : Pixel) → IsPixel s p → IsPixel s q → NearTriple (acesOf number (matrixOf s) p) (acesOf number (matrixOf s) q) (2 * e) → p ≡ q
+one-by s v number allowed e t p q i j n =
+    let a = acesOf number (matrixOf s) p in
+    let b = acesOf number (matrixOf s) q in
+    let m = middle-triple e n in
+    only-candidate-by s v number allowed e t (middleTriple a b) p (gives-by s number e (middleTriple a b) p i (m .0))
+    ∙ sym (only-candidate-by s v number allowed e t (middleTriple a b) q (gives-by s number e (middleTriple a b) q j (m .1)))
+
 -- ---- by the decoded numbers
 
 -- a pixel of the setting that gives numbers at most e from those given, and the first one
 abbrev pub PixelGives : (e : ℕ) → Setting → Triple → Pixel → Type 0
 PixelGives e s a q = GivesBy e (decoded s) s a q
+
+pub pixel-gives : (e : ℕ) (s : Setting) (a : Triple) (p : Pixel) → IsPixel s p → within3 e a (pixelAces s p) ≡ true → PixelGives e s a p
+pixel-gives e s a p i h = gives-by s (decoded s) e a p i (within3-near e a (pixelAces s p) h)
 
 abbrev pub pixelNear : (e : ℕ) → Setting → Triple → Found
 pixelNear e s a = pixelWith e (decoded s) (matrixOf s) (codeAt s) (lastOf s) a
@@ -99,13 +138,7 @@ module _ (e : ℕ) (s : Setting) (v : ValidForAces s) (t : NearEnough e s) (a : 
   only-candidate q g = only-candidate-by s v (decoded s) (decoding s (aces-valid s v)) e t a q g
 
   candidate-gives : within3 e a (pixelAces s (candidatePixel s a)) ≡ true → PixelGives e s a (candidatePixel s a)
-  candidate-gives h =
-      record {
-        red = search.own-code s (codeFor s 0 a) (candidate-passes s a 0);
-        green = search.own-code s (codeFor s 1 a) (candidate-passes s a 1);
-        blue = search.own-code s (codeFor s 2 a) (candidate-passes s a 2);
-        numbers = search.within3-near e a (pixelAces s (candidatePixel s a)) h;
-      }
+  candidate-gives h = pixel-gives e s a (candidatePixel s a) (candidate-is-pixel s a) h
 
   -- ---- what the way back finds
   unlike : {x : Bool} {A : Type 0} → x ≡ true → x ≡ false → A
@@ -123,7 +156,7 @@ module _ (e : ℕ) (s : Setting) (v : ValidForAces s) (t : NearEnough e s) (a : 
           sym
           (search.none-found e (decoded s) (matrixOf s) (codeAt s) (lastOf s) a
           (λ q g.
-          unlike (search.near-within3 e a (pixelAces s (candidatePixel s a)) (subst (λ (p : Pixel). search.NearTriple a (pixelAces s p) e) (only-candidate q g) (g .numbers))) h))
+          unlike (near-within3 e a (pixelAces s (candidatePixel s a)) (subst (λ (p : Pixel). NearTriple a (pixelAces s p) e) (only-candidate q g) (g .numbers))) h))
 
   -- and what it finds is the candidate
   abbrev Found′ : Found → Type 0

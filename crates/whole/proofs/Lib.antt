@@ -6,6 +6,7 @@ pub mod Tidy
 pub mod Sizes
 pub mod Words
 pub mod Near
+pub mod Middle
 pub mod Apart
 pub mod Weight
 pub mod Tests

@@ -1,5 +1,6 @@
 -- Two integers at most b apart.
 -- Assumes nothing.
+use mathlib.Core.Logic.{_⊎_, inl, inr}
 use mathlib.Core.Path.{_≡_, subst}
 use Prim.Native.Nat.{ℕ, suc, _+_, _*_, _≤_, _<_}
 use native.Mathlib.Nat.{mul-le-mul-left, lt-of-mul-lt-mul-left}
@@ -7,6 +8,7 @@ use native.Mathlib.Omega.{arith}
 use lib.Dec.{T, leb, leb→le}
 use lib.IntN.{ℤ, pos, negsuc, natAbs, _+ℤ_, _-ℤ_, _*ℤ_}
 use Rattle.whole.specs.Parts.{up, dn}
+use Rattle.whole.proofs.Apart.{less-or-not}
 use Rattle.whole.proofs.Reflect.{Ex, val, hi, lo, at, add, sub, mul, dif, abs-is, one-zero, same}
 
 pub record Near (x y : ℤ) (b : ℕ) : Type 0 where
@@ -64,11 +66,20 @@ abs-near {z} h = record { high = omega (arith, abs-is z); low = omega (arith, ab
 pub near-abs : {z : ℤ} {b : ℕ} → Near z (pos 0) b → natAbs z ≤ b
 near-abs {z} n = omega (arith, abs-is z, one-zero z, n .high, n .low)
 
--- a test that computes
-pub near-test : (x y : ℤ) (b : ℕ) → T (leb (natAbs (x -ℤ y)) b) → Near x y b
-near-test x y b t =
-    let h = leb→le (natAbs (x -ℤ y)) b t in
+-- by the size of their difference, which a test computes
+pub abs-dif : {x y : ℤ} {b : ℕ} → natAbs (x -ℤ y) ≤ b → Near x y b
+abs-dif {x} {y} h =
     record {
       high = omega (arith, dif (sub (at x) (at y)), abs-is (x -ℤ y));
       low = omega (arith, dif (sub (at x) (at y)), abs-is (x -ℤ y));
     }
+
+pub near-test : (x y : ℤ) (b : ℕ) → T (leb (natAbs (x -ℤ y)) b) → Near x y b
+near-test x y b t = abs-dif (leb→le (natAbs (x -ℤ y)) b t)
+
+-- they are at most b apart, or farther, and not both
+pub near-or-far : (x y : ℤ) (b : ℕ) → Near x y b ⊎ (b < natAbs (x -ℤ y))
+near-or-far x y b = elim (less-or-not b (natAbs (x -ℤ y))) [ inl l ↦ inr l | inr h ↦ inl (abs-dif h) ]
+
+pub near-not-far : {x y : ℤ} {b : ℕ} → Near x y b → b < natAbs (x -ℤ y) → ⊥
+near-not-far {x} {y} n h = omega (arith, dif (sub (at x) (at y)), abs-is (x -ℤ y), one-zero (x -ℤ y), n .high, n .low)

@@ -8,14 +8,20 @@ use borrow.Author.Needs.{needs}
 use lib.ListN.{length}
 use Rattle.rules.specs.declared.Check.{Check}
 use Rattle.rules.specs.declared.Check.the-variants.{Passed}
+use Rattle.rules.specs.declared.Distance.{Distance}
+use Rattle.rules.specs.declared.Found.{Found}
 use Rattle.rules.specs.declared.Setting.{Setting}
 use Rattle.rules.specs.Setting.{codeCheck}
-use Rattle.rules.specs.WayBack.{foundCheck}
+use Rattle.rules.specs.WayBack.{foundCheck, pixelBy, distanceOf}
 use Rattle.rules.specs.Graded.{gradedChecks, pixelNearest}
 use Rattle.decode.specs.Decoded.{decoded}
 use Rattle.aces_inverse.specs.Inverse.{candidates}
+use Rattle.aces_inverse.specs.Reach.{InReach}
 use Rattle.way_back.specs.Back.{pixelFor}
+use Rattle.way_back.specs.Candidate.{candidatePixel}
+use Rattle.way_back.proofs.Only.{near-enough, passed-found}
 use Rattle.record_conversion.specs.declared.Kind.{Kind}
+use Rattle.record_conversion.specs.declared.Kind.the-variants.{AcesToPixel}
 use Rattle.record_conversion.specs.Conversions.{sceneBits, codeBits, conversionOf}
 use Rattle.record_conversion.proofs.write_record.Statement.{statement}
 use Rattle.record_conversion.proofs.write_record.Tie as tie
@@ -45,6 +51,15 @@ module _ (s : tie.Start) {k : Kind} (told : s .args .k ≡ k) where
   said : (bytes : Setting → List ℕ) → bytes (settingOf r) ≡ conversionOf k .bytes r → bytes (s .args .s) ≡ conversionOf (s .args .k) .bytes r
   said bytes e = ap bytes (s .pre .1 .0 .0) ∙ e ∙ sym (ap (λ (x : Kind). conversionOf x .bytes r) told)
 
+-- a record that a way back takes: its numbers are in reach, and the pixel that is found for them is the candidate
+found : (s : tie.Start) {k : Distance} → s .args .k ≡ AcesToPixel k
+    → let a = tripleIn (now (s .args .r)) in InReach (a .red .0) (a .green .0) (a .blue .0) × (Found.Pixel (candidatePixel (s .args .s) a) ≡ pixelFor (distanceOf k) (s .args .s) a)
+unfolding pixelBy
+found s {k} told =
+    let a = tripleIn (now (s .args .r)) in
+    let v = valid s told in
+    passed-found (distanceOf k) (s .args .s) v (near-enough k (s .args .s) v) a (passes s told (λ x. foundCheck (pixelFor (distanceOf k) x a)) refl)
+
 write-triple-requires : tie.Need-write-triple-requires
 write-triple-requires c κs =
     let s = c .before .before .before .before .before in
@@ -55,7 +70,7 @@ write-back-requires : tie.Need-write-back-requires
 write-back-requires c κs =
     let s = c .before .before .before .before .before in
     let told = c .before .enum-told2 .given .1 in
-    (s .pre .0, (valid s told, (long s told, (passes s told (λ x. foundCheck (pixelFor x (tripleIn (now (s .args .r))))) refl, room s told))))
+    (s .pre .0, (valid s told, (long s told, (found s told .0, room s told))))
 
 write-scene-requires : tie.Need-write-scene-requires
 write-scene-requires c κs =
@@ -101,7 +116,11 @@ returns c =
 returns-2 : tie.Need-returns-2
 returns-2 c =
     let s = c .before .before .before .before .before .before .before .before in
-    c .before .before .write-back .ensures ∙ said s (c .before .before .before .before .enum-told2 .given .1) (λ x. pixelRecord x (pixelFound (pixelFor x (tripleIn (now (s .args .r)))))) refl
+    let told = c .before .before .before .before .enum-told2 .given .1 in
+    let e = distanceOf (c .before .before .before .before .enum-told2 .given .0 .0) in
+    c .before .before .write-back .ensures
+    ∙ ap (λ (f : Found). pixelRecord (s .args .s) (pixelFound f)) (found s told .1)
+    ∙ said s told (λ x. pixelRecord x (pixelFound (pixelFor e x (tripleIn (now (s .args .r)))))) refl
 
 returns-3 : tie.Need-returns-3
 returns-3 c =

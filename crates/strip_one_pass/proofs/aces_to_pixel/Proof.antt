@@ -7,7 +7,8 @@ use borrow.Author.Needs.{needs}
 use denote.Ref.{now}
 use lib.ListN.{length-take}
 use Rattle.rules.specs.Strip.{outputAfter}
-use Rattle.record_conversion.specs.Conversions.{acesToPixel}
+use Rattle.rules.specs.WayBack.{distanceOf}
+use Rattle.record_conversion.specs.Conversions.{backWithin}
 use Rattle.strip_passes.proofs.FirstPass.{counted}
 use Rattle.strip_one_pass.proofs.Buffer.{copied}
 use Rattle.strip_one_pass.proofs.aces_to_pixel.Statement.{statement}
@@ -15,7 +16,7 @@ use Rattle.strip_one_pass.proofs.aces_to_pixel.Tie as tie
 
 -- where no record is refused, as many are kept as there are
 count : (c : tie.After-known-told) → c .before .a .given .0 .0 ≡ c .before .before .before .before .before .before .before .before .args .n
-count c = counted acesToPixel _ (now (c .before .before .before .before .before .before .before .before .args .input)) (c .before .before .before .before .fill .result) _ (c .before .before .before .before .fill .ensures .0) (c .before .a .given .1)
+count c = counted (backWithin (distanceOf (c .before .before .before .before .before .before .before .before .args .k))) _ (now (c .before .before .before .before .before .before .before .before .args .input)) (c .before .before .before .before .fill .result) _ (c .before .before .before .before .fill .ensures .0) (c .before .a .given .1)
 
 mul-copy : tie.Need-mul-copy
 mul-copy c = omega (arith, count c, c .before .before .before .before .before .before .before .before .pre .0)
