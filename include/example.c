@@ -1,4 +1,4 @@
-/* An example: one pixel to ACES and back, and a refusal.
+/* An example: one pixel to ACES and back, a refusal, and the tolerant way back.
  *
  *   gcc -Iinclude include/example.c target/staticlib/libropeinstant.a -o target/example && target/example */
 #include <inttypes.h>
@@ -15,11 +15,16 @@ static void say(const char *what, uint32_t number, uint64_t at)
         printf("%s: refused %" PRIu32 " at record %" PRIu64 ": %s\n", what, number, at, ropeinstant_words(number));
 }
 
+static void compare(const uint8_t pixel[10], const uint8_t back[10])
+{
+    printf("  %s\n", memcmp(pixel, back, 10) == 0 ? "the same codes" : "other codes");
+}
+
 int main(void)
 {
     /* Curve 3, width 12, EI 800 (0x0320), codes 100, 0, 0. */
     const uint8_t pixel[10] = {3, 12, 0x20, 0x03, 100, 0, 0, 0, 0, 0};
-    uint8_t aces[28], back[10];
+    uint8_t aces[28], back[10], tolerant[10];
     uint64_t at;
     uint32_t number = ropeinstant_pixel_to_aces(pixel, sizeof pixel, aces, sizeof aces, &at);
 
@@ -32,10 +37,13 @@ int main(void)
 
     number = ropeinstant_aces_to_pixel(aces, sizeof aces, back, sizeof back, &at);
     say("back", number, at);
-    printf("  %s\n", memcmp(pixel, back, sizeof pixel) == 0 ? "the same codes" : "other codes");
+    compare(pixel, back);
 
     aces[4] += 1; /* one unit more: no pixel has these numbers */
     number = ropeinstant_aces_to_pixel(aces, sizeof aces, back, sizeof back, &at);
     say("back, one unit off", number, at);
+    number = ropeinstant_aces_to_pixel_tolerant(aces, sizeof aces, tolerant, sizeof tolerant, &at);
+    say("back, one unit off, tolerant", number, at);
+    compare(pixel, tolerant);
     return 0;
 }

@@ -13,9 +13,12 @@
  * The master, from which every code of the camera comes back, is the ACES record of 28 bytes. A half record is no master: different pixels may
  * share one.
  *
- * From ACES numbers to codes there are two ways. The way back, ropeinstant_aces_to_pixel, is for an untouched master: it refuses a record that
- * no pixel gives. The graded road, ropeinstant_graded_to_pixel, is for graded numbers: it gives codes for any numbers from -2^38 to 2^38, and
- * never says that something was changed, so that a damaged master may come out as some pixels without a word.
+ * From ACES numbers to codes there are three ways. The way back, ropeinstant_aces_to_pixel, is for an untouched master: it refuses a record that
+ * no pixel gives. The tolerant way back, ropeinstant_aces_to_pixel_tolerant, is for a master that another package moved by a few units when it
+ * saved it: it gives the pixel whose ACES numbers are within 5 units of the record's in every channel, and refuses where there is none. Two
+ * different pixels of a setting differ by at least 12 units in some channel, so that there is never more than one. The graded road,
+ * ropeinstant_graded_to_pixel, is for graded numbers: it gives codes for any numbers from -2^38 to 2^38, and never says that something was
+ * changed, so that a damaged master may come out as some pixels without a word.
  *
  * Curve 3 is LogC3 and curve 4 LogC4. Curve 2 is LogC of SUP 2.x firmware, with widths 10 and 12. Its scene numbers are units of normalised
  * sensor value. It has no ACES numbers, since ARRI publishes no ACES matrix for it: in a conversion to or from ACES one record of curve 2
@@ -78,7 +81,7 @@ static inline const char *ropeinstant_words(uint32_t number)
     case ROPEINSTANT_SCENE_OUT_OF_RANGE: return "a scene number to encode is outside -2^40 to 2^40";
     case ROPEINSTANT_FLOAT_NOT_FINITE: return "a float or a half float is infinite or not a number";
     case ROPEINSTANT_FLOAT_OUT_OF_RANGE: return "a float is below -65536 or above 65536";
-    case ROPEINSTANT_NO_PIXEL: return "no pixel of the setting has this ACES triple";
+    case ROPEINSTANT_NO_PIXEL: return "no pixel of the setting has this ACES triple (tolerant: one within 5 units in every channel)";
     case ROPEINSTANT_CODE_BELOW_FIRST: return "a code is below the first code of its width";
     case ROPEINSTANT_NO_MATRIX: return "the curve has no ACES matrix";
     case ROPEINSTANT_CODE_NOT_DIVISIBLE: return "a code of curve 4, width 16, is not a multiple of 16";
@@ -102,6 +105,11 @@ uint32_t ropeinstant_pixel_to_aces(const uint8_t *in, size_t in_len, uint8_t *ou
  * A strip of 16 to 4096 records is converted in one pass, with a buffer of 40 KiB on the stack, and any other in two, which take almost
  * twice the time: a longer strip may be cut at a record's border and converted in parts. */
 uint32_t ropeinstant_aces_to_pixel(const uint8_t *in, size_t in_len, uint8_t *out, size_t out_len, uint64_t *at);
+
+/* The tolerant way back: ACES records (28 bytes) to the pixel records (10 bytes) whose ACES numbers are within 5 units of these in every channel.
+ * A strip that ropeinstant_aces_to_pixel converts becomes the same pixels. Refuses by 1 to 5, 10 and 12, and by 10 where no pixel is as near.
+ * Its passes are those of ropeinstant_aces_to_pixel. */
+uint32_t ropeinstant_aces_to_pixel_tolerant(const uint8_t *in, size_t in_len, uint8_t *out, size_t out_len, uint64_t *at);
 
 /* ACES records (28 bytes) to half records (10 bytes), each number to the nearest finite half, of two the one with the even fraction; a number
  * beyond 65504 or -65504 gives that end. Different pixels may share a half record: what this writes is no master. Refuses by 1 to 5 and 12. */

@@ -6,8 +6,8 @@ import random, subprocess, sys, time
 
 from decoded import codes_of
 from rules import (
-    ACES_TO_HALF, ACES_TO_PIXEL, GRADED, GRADED_TO_PIXEL, HALF_TO_ACES, NUMBERS, PIXEL, PIXEL_TO_ACES, PIXEL_TO_SCENE, READ, SCENE_TO_PIXEL, SETTINGS,
-    WITH_MATRIX, WITHOUT_MATRIX, WRITTEN, aces, apart, numbers, pixel_of,
+    ACES_TO_HALF, ACES_TO_PIXEL, ACES_TO_PIXEL_TOLERANT, APART, GRADED, GRADED_TO_PIXEL, HALF_TO_ACES, NUMBERS, PIXEL, PIXEL_TO_ACES, PIXEL_TO_SCENE,
+    READ, SCENE_TO_PIXEL, SETTINGS, WAYS_BACK, WITH_MATRIX, WITHOUT_MATRIX, WRITTEN, aces, apart, numbers, pixel_of,
 )
 from strips import ENDS, end_jobs, hold, jobs, returned
 
@@ -17,6 +17,7 @@ SAMPLE = 1000  # of the records of each strip: the way back by definition
 LISTED = (3, 12, 800)
 NAMES = (  # of the driver's conversions
     "pixel-to-scene", "scene-to-pixel", "pixel-to-aces", "aces-to-pixel", "aces-to-half", "half-to-aces", "graded-to-pixel", "graded-to-scene",
+    "aces-to-pixel-tolerant",
 )
 
 
@@ -64,13 +65,13 @@ def mixed(pick, table, count):
 
 
 def million(driver, pick, table):
-    """pixels to ACES, and back, by the graded road too; triples one unit off, each alone"""
+    """pixels to ACES, and back, by the tolerant way and the graded road too; triples one unit off, each alone, which the tolerant way takes back"""
     for _ in range(STRIPS):
         pixels, made, off = mixed(pick, table, RECORDS)
         done = b"done %d\n" % RECORDS
         same(drive(driver, "strip", "pixel-to-aces", b"".join(pixels)), done + b"".join(made), NUMBERS.size, pixels)
-        for back in "aces-to-pixel", "graded-to-pixel":
-            same(drive(driver, "strip", back, b"".join(made)), done + b"".join(pixels), PIXEL.size, made)
+        for back, records in ("aces-to-pixel", made), ("graded-to-pixel", made), ("aces-to-pixel-tolerant", made), ("aces-to-pixel-tolerant", off):
+            same(drive(driver, "strip", back, b"".join(records)), done + b"".join(pixels), PIXEL.size, records)
         for r, found in zip(made[:SAMPLE] + off[:SAMPLE], pixels[:SAMPLE] + [None] * SAMPLE):
             *s, x, y, z = NUMBERS.unpack(r)
             codes = pixel_of(table, tuple(s), [x, y, z])
@@ -81,16 +82,17 @@ def million(driver, pick, table):
             assert line == b"refused 10 0", (line, NUMBERS.unpack(r))
 
 
-def borders(driver, pick, table):
-    """strips of ACES records of chosen lengths: whole; with one record that no pixel gives, or of a curve without a matrix, and others behind it"""
+def borders(driver, pick, way, records):
+    """strips of chosen lengths on a way back: whole; with one record that no pixel gives, or of a curve without a matrix, and others behind it. Of a
+    count of them RECORDS gives pixels, ACES records that come back as these, and some that are refused by 10: how many strips were refused"""
     tried = 0
     for n in BORDERS:
-        pixels, made, off = mixed(pick, table, n)
-        same(drive(driver, "strip", "aces-to-pixel", b"".join(made)), b"done %d\n" % n + b"".join(pixels), PIXEL.size, made)
+        pixels, made, off = records(n)
+        same(drive(driver, "strip", NAMES[way], b"".join(made)), b"done %d\n" % n + b"".join(pixels), PIXEL.size, made)
         for k in {0, n // 2, n - 1}:
             for number, wrong in (10, off[k]), (12, NUMBERS.pack(*pick.choice(WITHOUT_MATRIX), *NUMBERS.unpack(made[k])[3:])):
                 strip = made[:k] + [wrong] + pick.choice((made, off))[k + 1:]
-                got = drive(driver, "strip", "aces-to-pixel", b"".join(strip))
+                got = drive(driver, "strip", NAMES[way], b"".join(strip))
                 assert got == b"refused %d %d\n" % (number, k) + bytes(n * PIXEL.size), (n, k, got[:40])
                 tried += 1
     return tried
@@ -101,18 +103,19 @@ def listed():
     pixel, triple = PIXEL.pack(*LISTED, 100, 0, 0), NUMBERS.pack(*LISTED, -238167, -283566, -289928)
     none = NUMBERS.pack(*LISTED, -290085, -290085, -290084)
     yield PIXEL_TO_ACES, pixel, bytes(NUMBERS.size)
-    yield ACES_TO_PIXEL, triple, bytes(PIXEL.size)
-    yield ACES_TO_PIXEL, none, bytes(PIXEL.size)
-    yield ACES_TO_PIXEL, triple + none, bytes(30)
     yield PIXEL_TO_ACES, bytes(11), bytes(100)
-    yield ACES_TO_PIXEL, bytes(29), bytes(100)
-    for c in (PIXEL_TO_ACES, ACES_TO_PIXEL):
+    for c in PIXEL_TO_ACES, *WAYS_BACK:
         yield c, b"", b""
         yield c, b"", b"kept"
-    for s in SETTINGS:
-        for x in ENDS:
-            yield ACES_TO_PIXEL, triple + NUMBERS.pack(*s, x, x, x), bytes(20)
-            yield ACES_TO_PIXEL, NUMBERS.pack(*s, x, 0, -x - 1), bytes(PIXEL.size)
+    for c in WAYS_BACK:
+        yield c, triple, bytes(PIXEL.size)
+        yield c, none, bytes(PIXEL.size)
+        yield c, triple + none, bytes(30)
+        yield c, bytes(29), bytes(100)
+        for s in SETTINGS:
+            for x in ENDS:
+                yield c, triple + NUMBERS.pack(*s, x, x, x), bytes(20)
+                yield c, NUMBERS.pack(*s, x, 0, -x - 1), bytes(PIXEL.size)
 
 
 def main():
@@ -120,20 +123,20 @@ def main():
     driver, pick = sys.argv[1], random.Random(int(sys.argv[2]) if len(sys.argv) > 2 else 1)
     table = {s: numbers(s) for s in SETTINGS}
     least = min(apart(table, s) for s in WITH_MATRIX)
-    assert least >= 12, least  # so a triple one unit off is no other pixel's
+    assert least >= APART, least  # so a triple one unit off is no other pixel's
     assert aces(LISTED, *(table[LISTED][n] for n in (100, 0, 0))) == [-238167, -283566, -289928]
     assert pixel_of(table, LISTED, [-290085, -290085, -290084]) is None
     million(driver, pick, table)
-    tried = borders(driver, pick, table)
-    print(f"aces: {STRIPS * RECORDS} pixels of {len(WITH_MATRIX)} settings in mixed strips: their ACES strips are exact in every byte, and give the pixels back, by the graded road too")
-    print(f"aces: {STRIPS * RECORDS} ACES triples one unit off in one channel are each refused by 10 (two pixels are {float(least):.1f} units apart or more)")
+    tried = borders(driver, pick, ACES_TO_PIXEL, lambda n: mixed(pick, table, n))
+    print(f"aces: {STRIPS * RECORDS} pixels of {len(WITH_MATRIX)} settings in mixed strips: their ACES strips are exact in every byte, and give the pixels back, by the tolerant way and the graded road too")
+    print(f"aces: {STRIPS * RECORDS} ACES triples one unit off in one channel are each refused by 10 (two pixels are {float(least):.1f} units apart or more), and give the pixels back by the tolerant way")
     print(f"aces: strips of {', '.join(map(str, BORDERS))} ACES records give the pixels back; {tried} with a record one unit off or of curve 2 are refused there, and their outputs stay")
-    todo = [*listed(), *end_jobs(table), *jobs(pick, table, (PIXEL_TO_ACES, ACES_TO_PIXEL), 4000)]
+    todo = [*listed(), *end_jobs(table), *jobs(pick, table, (PIXEL_TO_ACES, *WAYS_BACK), 6000)]
     todo += jobs(pick, table, (PIXEL_TO_SCENE, SCENE_TO_PIXEL, ACES_TO_HALF, HALF_TO_ACES, *GRADED), 3000)
     seen, done = hold([driver, "jobs"], table, todo)
     assert all(f"refused {n}" in seen for n in (*range(1, 9), *range(10, 15))), seen
     strips, _ = returned([driver, "jobs"], done, PIXEL_TO_ACES, ACES_TO_PIXEL)
-    assert returned([driver, "jobs"], done, PIXEL_TO_ACES, GRADED_TO_PIXEL)[0] == strips
+    assert all(returned([driver, "jobs"], done, PIXEL_TO_ACES, back)[0] == strips for back in (ACES_TO_PIXEL_TOLERANT, GRADED_TO_PIXEL))
     print(f"aces: {len(todo)} strips, short, long, damaged or random, are converted or refused as the rules say, every byte of the outputs too: {seen}; {strips} ACES strips give the pixels back ({time.time() - begun:.0f} s)")
 
 

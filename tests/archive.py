@@ -1,12 +1,14 @@
 #!/usr/bin/env python3
 """archive.py PROGRAM [TEST..]: what an archive does with its masters by the command: check, inspect and verify them, several at once too, and hold them to their manifests;
-with half floats, which are no master; with graded masters, which the exact way back refuses; and with reels of older firmware, which have no master."""
+with half floats, which are no master; with masters that another package moved by a few units, and with graded ones, which the exact way back refuses;
+and with reels of older firmware, which have no master."""
 import hashlib, json, random
 
 from binary16 import units_of
 from calls import DONE, FILES, GOOD, NO_MATRIX, OLD, REFUSED, USAGE, begin, begun, call, each, holds, keeps, litter, until
 from reel import reel, run
-from rules import GRADED_TO_PIXEL, HALVES, NUMBERS, PIXEL, WITHOUT_MATRIX, convert, numbers
+from rules import GRADED_TO_PIXEL, HALVES, NUMBERS, PIXEL, TOLERATED, WITHOUT_MATRIX, convert, numbers
+from strips import nudged
 
 ACES = NUMBERS.pack(3, 12, 800, -238167, -283566, -289928)  # of GOOD
 OTHER = PIXEL.pack(3, 12, 800, 101, 0, 0)
@@ -229,10 +231,64 @@ def halves(folder):
     assert said.endswith("refused 8: record 2 (byte 20): green half 0xfc00 is minus infinity\n"), said
 
 
-def warmer(aces, to):
-    """a master as a colourist may leave it: an eighth more red, an eighth less blue"""
-    records = (record[:3] + tuple(x * k // 8 for x, k in zip(record[3:], (9, 8, 7))) for record in NUMBERS.iter_unpack(aces.read_bytes()))
-    to.write_bytes(b"".join(NUMBERS.pack(*record) for record in records))
+def changed_by(aces, to, change):
+    """a copy of a master with each record's triple changed"""
+    to.write_bytes(b"".join(NUMBERS.pack(*record[:3], *change(record[3:])) for record in NUMBERS.iter_unpack(aces.read_bytes())))
+
+
+def nudged_master(folder):
+    """a master that another package moved by five units or less comes back by the tolerant way, which says how many records were moved, and how far; the
+    exact way refuses it; an unmoved one comes back the same by either way; and what is moved farther is refused in both"""
+    pixels, aces = made(folder)
+    moved, out, again = (folder / name for name in ("moved.aces", "back.pixels", "again.aces"))
+    assert call("to-camera", "--tolerant", aces, out) == (DONE, f"{aces}: moved records: 0 of 40000\n", "") and out.read_bytes() == pixels.read_bytes()
+    out.unlink()
+    assert call("to-camera", aces, out, "--tolerant", "--quiet") == (DONE, "", "") and out.read_bytes() == pixels.read_bytes()
+
+    pick = random.Random(1)
+    changed_by(aces, moved, lambda triple: nudged(pick, triple, TOLERATED))
+    pairs = zip(NUMBERS.iter_unpack(aces.read_bytes()), NUMBERS.iter_unpack(moved.read_bytes()))
+    count = sum(own != other for own, other in pairs)
+    keeps(out, "to-camera", moved, out, status=REFUSED, saying=f"{moved}: refused 10: record 0 (byte 0): no pixel of curve ")
+    for name in "check", "inspect":
+        assert call(name, moved)[0] == REFUSED
+    assert call("to-camera", "--tolerant", moved, out) == (DONE, f"{moved}: moved records: {count} of 40000, the farthest by 5 units\n", "")
+    assert out.read_bytes() == pixels.read_bytes()
+    out.unlink()
+    value, = lines(call("to-camera", "--tolerant", moved, out, "--json", "--manifest", "--chunk=7", "--threads=3"))
+    assert (value["command"], value["records"], value["moved"]) == ("to-camera --tolerant", 40000, {"records": count, "units": TOLERATED}), value
+    assert call("to-aces", out, again) == (DONE, "", "") and again.read_bytes() == aces.read_bytes()  # the master as it was
+
+    # a record that is six units off, among others that are moved: number, place and words; no new output
+    data, k = bytearray(moved.read_bytes()), 31000
+    *s, red, green, blue = NUMBERS.unpack_from(aces.read_bytes(), k * NUMBERS.size)
+    NUMBERS.pack_into(data, k * NUMBERS.size, *s, red, green - TOLERATED - 1, blue)
+    bad, new = folder / "bad.aces", folder / "new.pixels"
+    bad.write_bytes(data)
+    words = f"no pixel of curve {s[0]}, width {s[1]}, EI {s[2]} has ACES numbers within 5 units of {red}, {green - 6}, {blue} in every channel"
+    words = f"{bad}: refused 10: record {k} (byte {k * NUMBERS.size}): {words}\n"
+    (folder / "back.pixels.manifest").unlink()
+    keeps(out, "to-camera", "--tolerant", bad, out, status=REFUSED, saying=words)
+    assert call("to-camera", "--tolerant", bad, new, "--chunk=7", "--threads=3") == (REFUSED, "", words) and not new.exists() and not litter(folder)
+    refusal = lines(call("to-camera", "--tolerant", bad, new, "--json"))[0]["refusal"]
+    assert (refusal["number"], refusal["record"], refusal["byte"]) == (10, k, k * NUMBERS.size), refusal
+    bad.write_bytes(moved.read_bytes()[:-1])
+    keeps(out, "to-camera", "--tolerant", bad, out, status=REFUSED, saying=f"{bad}: refused 1: ")
+    bad.write_bytes(ACES + NUMBERS.pack(2, 12, 800, 0, 0, 0))
+    keeps(out, "to-camera", "--tolerant", bad, out, status=REFUSED, saying=f"refused 12: record 1 (byte {NUMBERS.size}): curve 2 has no ACES matrix{NO_MATRIX[NUMBERS]}\n")
+    bad.write_bytes(b"")
+    assert call("to-camera", "--tolerant", bad, new)[:2] == (DONE, f"{bad}: moved records: 0 of 0\n") and new.read_bytes() == b""
+
+    # the manifest of the master, beside a moved copy, does not hold; left aside it comes back
+    _, listed = made(folder, "listed", options=("--manifest",))
+    listed.write_bytes(moved.read_bytes())
+    keeps(out, "to-camera", "--tolerant", listed, out, status=REFUSED, saying="differs: ")
+    assert call("to-camera", "--tolerant", "--no-manifest", listed, out)[0] == DONE and out.read_bytes() == pixels.read_bytes()
+
+
+def warmer(triple):
+    """a triple as a colourist may leave it: an eighth more red, an eighth less blue"""
+    return [x * k // 8 for x, k in zip(triple, (9, 8, 7))]
 
 
 def graded(folder):
@@ -243,7 +299,7 @@ def graded(folder):
     for road in "to-camera", "graded-to-camera":
         assert call(road, aces, out) == (DONE, "", "") and out.read_bytes() == pixels.read_bytes(), road
 
-    warmer(aces, changed)
+    changed_by(aces, changed, warmer)
     keeps(out, "to-camera", changed, out, status=REFUSED, saying=f"{changed}: refused 10: record ")
     holds(call("check", changed), REFUSED, f"{changed}: refused 10: record ")
     holds(call("verify", pixels, changed), REFUSED, f"{changed}: refused 10: record ")
@@ -320,4 +376,4 @@ def older_firmware(folder):
 
 
 if __name__ == "__main__":
-    each((checked, held_to_master, manifests, unreplaced, inspected, halves, graded, older_firmware))
+    each((checked, held_to_master, manifests, unreplaced, inspected, halves, nudged_master, graded, older_firmware))

@@ -3,13 +3,14 @@ import os, resource, signal, subprocess, sys, tempfile, time
 from pathlib import Path
 
 from rules import (
-    ACES_TO_HALF, ACES_TO_PIXEL, GRADED_TO_PIXEL, GRADED_TO_SCENE, HALF_TO_ACES, HALVES, NUMBERS, PIXEL, PIXEL_TO_ACES, PIXEL_TO_SCENE, SCENE_TO_PIXEL,
+    ACES_TO_HALF, ACES_TO_PIXEL, ACES_TO_PIXEL_TOLERANT, GRADED_TO_PIXEL, GRADED_TO_SCENE, HALF_TO_ACES, HALVES, NUMBERS, PIXEL, PIXEL_TO_ACES,
+    PIXEL_TO_SCENE, SCENE_TO_PIXEL,
 )
 
 DONE, REFUSED, USAGE, FILES = range(4)  # exit statuses
-NAMES = {
+NAMES = {  # of each conversion: its subcommand, with the option that asks for it
     PIXEL_TO_ACES: "to-aces", ACES_TO_PIXEL: "to-camera", PIXEL_TO_SCENE: "to-scene", SCENE_TO_PIXEL: "from-scene", ACES_TO_HALF: "to-half",
-    HALF_TO_ACES: "from-half", GRADED_TO_PIXEL: "graded-to-camera", GRADED_TO_SCENE: "graded-to-scene",
+    HALF_TO_ACES: "from-half", GRADED_TO_PIXEL: "graded-to-camera", GRADED_TO_SCENE: "graded-to-scene", ACES_TO_PIXEL_TOLERANT: "to-camera --tolerant",
 }
 LOOKING = "verify", "check", "inspect"  # those that write no file
 NO_MATRIX = {  # how the words of refusal 12 go on, by the records that are read

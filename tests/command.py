@@ -11,43 +11,46 @@ from decoded import SETTINGS, WIDTHS, codes_of
 from peak import watched
 from reel import reel
 from rules import (
-    ACES_TO_HALF, ACES_TO_PIXEL, GRADED, GRADED_LIMIT, GRADED_TO_PIXEL, GRADED_TO_SCENE, HALF_TO_ACES, HALVES, LIMIT, NUMBERS, PIXEL, PIXEL_TO_ACES,
-    PIXEL_TO_SCENE, READ, SCENE_TO_PIXEL, WRITTEN, convert, numbers,
+    ACES_TO_HALF, ACES_TO_PIXEL, ACES_TO_PIXEL_TOLERANT, GRADED, GRADED_LIMIT, GRADED_TO_PIXEL, GRADED_TO_SCENE, HALF_TO_ACES, HALVES, LIMIT, NUMBERS,
+    PIXEL, PIXEL_TO_ACES, PIXEL_TO_SCENE, READ, SCENE_TO_PIXEL, TOLERATED, WAYS_BACK, WRITTEN, convert, numbers,
 )
 from strips import BEYOND, jobs
 
 CHOSEN = [s for s in SETTINGS if s[:2] != (3, 16) or s[2] == 800]  # one of the eleven with 65536 codes
 CHANNELS = "red", "green", "blue"
+SUBCOMMANDS = [*dict.fromkeys(name.split()[0] for name in NAMES.values()), *LOOKING]
 REFUSALS = {  # of each conversion, in the order in which they are tried
     PIXEL_TO_ACES: "1 3 4 5 12 13 11 6", ACES_TO_PIXEL: "1 3 4 5 12 10", PIXEL_TO_SCENE: "1 3 4 5 13 11 6", SCENE_TO_PIXEL: "1 3 4 5 7",
     ACES_TO_HALF: "1 3 4 5 12", HALF_TO_ACES: "1 3 4 5 12 8", GRADED_TO_PIXEL: "1 3 4 5 12 14", GRADED_TO_SCENE: "1 3 4 5 12 14",
+    ACES_TO_PIXEL_TOLERANT: "1 3 4 5 12 10",
 }
-WHICH_WAY = "to-camera is for an untouched master"  # of what the help says of the two ways to codes
+WHICH_WAY = "to-camera is for an untouched master"  # of what the help says of the ways to codes
 
 
 # ---- help and wrong usage
 
 def help_and_version():
     status, said, wrong = call("--help")
-    assert status == DONE and not wrong and all(f"\n  {name} " in said for name in (*NAMES.values(), *LOOKING, "demo")), said
+    assert status == DONE and not wrong and all(f"\n  {name} " in said for name in (*SUBCOMMANDS, "demo")), said
     for words in (
         "160, 200, 250, 320, 400, 500, 640, 800, 1000, 1280, 1600", "one unit is 2^-24", "10  no pixel of the setting",
         "3   the curve is not 2, 3 or 4\n", "12  the curve has no ACES matrix\n", "14  a graded ACES number is outside -2^38 to 2^38\n", "no OpenEXR file",
-        WHICH_WAY,
+        WHICH_WAY, "\nto-camera --tolerant is for a master whose numbers another package moved",
     ):
         assert words in said, said
-    for name in (*NAMES.values(), *LOOKING):
+    for name in SUBCOMMANDS:
         for words in ((name, "--help"), (name, "-h"), ("help", name)):
             status, said, wrong = call(*words)
             assert status == DONE and not wrong and f"\nUsage: ropeinstant {name} [OPTIONS]" in said and "Exit status: 0 done" in said, said
     for conversion, numbered in REFUSALS.items():
-        said = call(NAMES[conversion], "--help")[1]
+        said = call(*NAMES[conversion].split(), "--help")[1]
         assert re.findall(r"(?m)^    (\d+) ", said) == numbered.split(), (numbered, said)
         assert ("refuses the whole file:\nkeep its reels apart." in said) == (conversion == PIXEL_TO_ACES), said
         assert ("A HALF FILE IS NO MASTER." in said) == (conversion == ACES_TO_HALF), said
         assert ("within 9/8 of a unit of what the exact curve and matrix give" in said) == (conversion == PIXEL_TO_ACES), said
         assert ("within 51/100 of a unit" in said) == (conversion == PIXEL_TO_SCENE), said
-        assert (WHICH_WAY in said) == (conversion in (ACES_TO_PIXEL, *GRADED)), said
+        assert (WHICH_WAY in said) == (conversion in (*WAYS_BACK, *GRADED)), said
+        assert ("\n      --tolerant " in said and "within 5 units of these in\nevery channel" in said) == (conversion in WAYS_BACK), said
         assert ("differ from those given by at most 1 unit in each" in said) == (conversion == GRADED_TO_SCENE), said
     status, said, wrong = call("--version")
     assert status == DONE and not wrong and re.fullmatch(r"ropeinstant \d+\.\d+\.\d+\n", said), said
@@ -64,6 +67,7 @@ def wrong_usage(folder):
         (("to-aces", source, out, "--fast"), "'--fast'"), (("to-aces", source, out, "--threads"), "--threads"),
         (("to-aces", source, out, "--threads", "0"), "1..=256"), (("to-aces", source, out, "--chunk", "many"), "--chunk"),
         (("to-aces", source, "-"), "a pipe cannot promise"), (("to-aces", source, source), "the same file"),
+        (("to-aces", source, out, "--tolerant"), "'--tolerant'"), (("check", source, "--tolerant"), "'--tolerant'"),
         (("verify", source, "--pair"), "two names"), (("verify", source, source, "--pair", "--scene"), "'--scene'"),
         (("--help", "more"), "'more'"), (("--version", "more"), "'more'"),
         (("help", "to-aces", "more"), "'more'"), (("to-aces", source, out, out, "--help"), "'"), (("demo", "more"), "'more'"), (("help", "none"), "'none'"),
@@ -80,15 +84,17 @@ def wrong_usage(folder):
 
 
 def demo(folder):
-    """a reel of the settings with a matrix goes to ACES and back, one of the others to scene and back, a damaged copy is refused, and nothing stays"""
+    """a reel of the settings with a matrix goes to ACES and back, one of the others to scene and back, a damaged copy is refused, and comes back by the
+    tolerant way; and nothing stays"""
     status, said, wrong = call("demo", env=dict(os.environ, TMPDIR=str(folder)))
     assert status == DONE and not wrong and not list(folder.iterdir()), (status, said, wrong)
     for words in (
         "A reel of 36 settings", "reel.pixels has 360000 bytes", "reel.aces has 1008000 bytes", "the 22 settings without an ACES matrix",
         "sup2.scene has 616000 bytes", "refused 10", "as it was",
+        "ropeinstant to-camera --tolerant damaged.aces back.pixels\n    damaged.aces: moved records: 1 of 36000, the farthest by 1 unit\n",
     ):
         assert words in said, said
-    assert said.count("the reel came back, byte for byte") == 2, said
+    assert said.count("the reel came back, byte for byte") == 3, said
 
 
 # ---- the rules
@@ -117,12 +123,14 @@ def words_of(number, k, conversion, data):
         sign, _, fraction = fields(half)
         return where + f"{name} half {half:#06x} is {'not a number' if fraction else 'minus infinity' if sign else 'plus infinity'}\n"
     *widths, last = WIDTHS.get(curve, (0,))
+    triple = ", ".join(map(str, channels))
+    found = f"ACES numbers within 5 units of {triple} in every channel" if conversion == ACES_TO_PIXEL_TOLERANT else f"the ACES numbers {triple}"
     return where + {
         3: f"curve {curve} is not 2, 3 or 4\n",
         4: f"width {width} is not one of curve {curve}'s, which are {', '.join(map(str, widths))} and {last}\n",
         5: f"EI {ei} is not one of curve {curve}'s, which ",
         12: f"curve {curve} has no ACES matrix{NO_MATRIX[record]}\n",
-        10: f"no pixel of curve {curve}, width {width}, EI {ei} has the ACES numbers {', '.join(map(str, channels))}\n",
+        10: f"no pixel of curve {curve}, width {width}, EI {ei} has {found}\n",
     }[number]
 
 
@@ -136,10 +144,10 @@ def held_to_rules(folder, pick, table, count):
         piped = pick.randrange(2)
         source.write_bytes(data)
         options = f"--threads={pick.randrange(1, 5)}", "--chunk", pick.choice((1, 2, 5, 30, 1000))
-        run = NAMES[conversion], "-" if piped else source, out, *options
+        run = *NAMES[conversion].split(), "-" if piped else source, out, *options
         how, number, *at = answer.replace("done", "done 0").split()
         if how == "done":
-            options = ("--allow-empty", "--quiet") if not data else ()
+            options = ("--allow-empty", "--quiet") if not data or conversion == ACES_TO_PIXEL_TOLERANT else ()
             assert call(*run, *options, data=data if piped else None) == (DONE, "", ""), (run, data.hex())
             assert out.read_bytes() == made and not litter(folder), (run, data.hex())
         else:
@@ -165,7 +173,7 @@ def listed():
     )]
     tried = [(c, GOOD * 7 + bad + GOOD, b"") for c in (PIXEL_TO_ACES, PIXEL_TO_SCENE) for bad in of_pixels]
     tried += [(SCENE_TO_PIXEL, scene * 3 + NUMBERS.pack(3, 12, 800, 0, x, 0), b"") for x in (LIMIT, LIMIT + 1, -LIMIT - 1, 2 ** 63 - 1)]
-    tried += [(ACES_TO_PIXEL, aces * 3 + NUMBERS.pack(3, 12, 800, -290085, -290085, -290084), b"")]
+    tried += [(c, aces * 3 + NUMBERS.pack(3, 12, 800, -290085, -290085, -290085 + off), b"") for c in WAYS_BACK for off in (0, 1, TOLERATED, TOLERATED + 1)]
     half = HALVES.pack(3, 12, 800, 0x3C00, 0x8000, 0x7BFF)
     tried += [(HALF_TO_ACES, half * 5 + HALVES.pack(*s, *halves), b"") for s, halves in (
         ((3, 12, 800), (0x7BFF, 0x7C00, 0xFFFF)), ((3, 12, 800), (0, 0, 0xFC00)), ((4, 12, 0), (0x7C01, 0, 0)), ((2, 12, 800), (0x7C00, 0, 0)), ((4, 10, 0), (0x7C00, 0, 0)),
@@ -177,7 +185,7 @@ def listed():
         ((3, 10, 800), (end, -end, high)), ((4, 12, 0), (-2 ** 63, 0, 0)), ((3, 16, 800), (0, 0, 2 ** 63 - 1)),
         ((2, 12, 800), (high, 0, 0)), ((2, 12, 0), (high, 0, 0)), ((2, 16, 800), (high, 0, 0)), ((7, 12, 800), (high, 0, 0)),
     )]
-    tried += [(c, aces * 3 + NUMBERS.pack(2, 12, 800, 53187, x, 0), b"") for c in (SCENE_TO_PIXEL, ACES_TO_PIXEL) for x in (65554, LIMIT + 1)]
+    tried += [(c, aces * 3 + NUMBERS.pack(2, 12, 800, 53187, x, 0), b"") for c in (SCENE_TO_PIXEL, *WAYS_BACK) for x in (65554, LIMIT + 1)]
     tried += [(c, b"", b"") for c in NAMES] + [(c, bytes(29), b"") for c in NAMES]
     return tried + [(PIXEL_TO_ACES, of_pixels[0] + GOOD * 40 + b"tail", b"")]
 

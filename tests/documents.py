@@ -432,12 +432,23 @@ def bounds(sources, texts):
         yield from (f"{place}: {figure} of a unit is no bound of the rules" for figure in {*said} - {decoded, aces})
 
 
-def graded(sources, texts):
-    """how far the ACES numbers of what the graded road gives may be off is said in each of these places, and is what is proved"""
-    off = re.search(r"(?m)^reached = (\d+)", (ROOT / "crates/graded/specs/Graded.antt").read_text())[1]
-    for place, text in {README: texts[README], FORMAT: texts[FORMAT], "include/ropeinstant.h": sources.installed, "the help": sources.tool}.items():
-        if {*re.findall(r"(?:within|by at most) (\d+) (?:unit|in each channel)", re.sub(r"[ *\n]+", " ", text))} != {off}:
-            yield f"{place}: graded numbers are off by at most {off}"
+# How far ACES numbers are from one another: what is said, its definition, the form of the sentences that say it, and where there are some beside
+# README.md, FORMAT.md, the header and the help.
+DISTANCES = (
+    ("graded numbers are off by at most", "graded/specs/Graded", "reached", r"(?:within|by at most) (\d+) units? (?:of them|in each channel)", ()),
+    ("the tolerant way back finds what is within", "rules/specs/WayBack", "tolerated", r"within (\d+) units(?: of [\w' ]+?)? in every channel", (COMMAND,)),
+    ("two pixels differ by at least", "rules/specs/WayBack", "apart", r"differ by at least (\d+) units", (COMMAND,)),
+)
+
+
+def distances(sources, texts):
+    """each of the distances is said in each of its places, and is that of the rules or what is proved"""
+    for what, file, name, form, more in DISTANCES:
+        units = re.search(rf"(?m)^{name} = (\d+)$", (ROOT / f"crates/{file}.antt").read_text())[1]
+        places = {**{d: texts[d] for d in (README, FORMAT, *more)}, "include/ropeinstant.h": sources.installed, "the help": sources.tool}
+        for place, text in places.items():
+            if {*re.findall(form, re.sub(r"[ *\n]+", " ", text))} != {units}:
+                yield f"{place}: {what} {units}"
 
 
 @functools.lru_cache(maxsize=None)
@@ -471,7 +482,7 @@ def complaints(sources, texts):
     wrong += [f"crates/{c} is not in {ARCHITECTURE}" for c in sources.crates if c not in listed]
     named = " ".join(" ".join(texts.values()).split())
     wrong += [f"tests/documents.py: no document has `{name}`" for name in ALLOWED if f"`{name}`" not in named]
-    return [*wrong, *ids(texts), *links(texts), *long_lines(texts), *figures(sources, texts), *bounds(sources, texts), *graded(sources, texts)]
+    return [*wrong, *ids(texts), *links(texts), *long_lines(texts), *figures(sources, texts), *bounds(sources, texts), *distances(sources, texts)]
 
 
 # ---- the quotations
@@ -527,6 +538,8 @@ def damaged(sources, texts):
     yield "another bound", swap("51/100 of a unit", "50/100 of a unit", README), "50/100 of a unit is no bound"
     yield "no bound of an ACES number", swap("9/8 of a unit", "a unit", FORMAT), "the bound of an ACES number is 9/8"
     yield "another distance of graded numbers", swap("within 1 unit", "within 2 units", README), "graded numbers are off by at most 1"
+    yield "another distance of the tolerant way back", swap("within 5 units", "within 6 units", FORMAT), "finds what is within 5"
+    yield "no distance of two pixels", swap("at least 12 units", "12 units", COMMAND), "two pixels differ by at least 12"
     yield "another entry of an inverse", swap("| 1666845747229 |", "| 1666845747228 |", FORMAT), FORMAT
     yield "a name of another file", swap(f"{named} in {place}", f"`main` in {place}", DECISIONS), "`main` is not in"
     yield "an open function with a `requires`", swap(open_one[0], f"{asks.crate} `{asks.name}`"), asks.name

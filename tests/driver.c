@@ -34,6 +34,7 @@ static const struct conversion CONVERSIONS[] = {
     {"half-to-aces", ropeinstant_half_to_aces, 10, 28},
     {"graded-to-pixel", ropeinstant_graded_to_pixel, 28, 10},
     {"graded-to-scene", ropeinstant_graded_to_scene, 28, 28},
+    {"aces-to-pixel-tolerant", ropeinstant_aces_to_pixel_tolerant, 28, 10},
 };
 enum { COUNT = sizeof CONVERSIONS / sizeof CONVERSIONS[0] };
 

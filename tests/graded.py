@@ -15,7 +15,7 @@ from rules import (
     numbers, product, setting_check, units_off,
 )
 from strips import BEYOND, ENDS, GRADED_ENDS
-from way_back import SETTING_BYTES
+from way_back import SETTING_BYTES, asked_of
 
 EACH = 1500  # triples of each setting: at random, of pixels, and of these moved
 OFF = 0, 1, 2, 3, 5, 8, 12, 16, 40, 300, 2 ** 20, 2 ** 30, 2 ** 36  # units that a channel is moved
@@ -49,14 +49,6 @@ def far(pick):
         for x in FAR:
             for places in (0,), (1,), (2,), (0, 1), (1, 2), (0, 2), (0, 1, 2):
                 yield s, [x if k in places else pick.choice((0, *GRADED_ENDS)) for k in range(3)]
-
-
-def asked_of(program, records):
-    """the line that PROGRAM prints for each record"""
-    data = b"".join(NUMBERS.pack(*s, *triple) for s, triple in records)
-    lines = subprocess.run([program], input=data, stdout=subprocess.PIPE, check=True).stdout.decode().split("\n")
-    assert not lines.pop() and len(lines) == len(records), len(lines)
-    return lines
 
 
 def one_by_one(program, passing):

@@ -35,7 +35,7 @@ def main():
         ):
             assert (root / path).stat().st_size > 0, path
         version = run(root / "bin/ropeinstant", "--version").split()[1]
-        assert run(root / "bin/ropeinstant", "demo").endswith("back.pixels is as it was\n")
+        assert run(root / "bin/ropeinstant", "demo").endswith("the reel came back, byte for byte\n")
 
         listed = dict(os.environ, PKG_CONFIG_PATH=str(root / "lib/pkgconfig"), PKG_CONFIG_SYSROOT_DIR=str(made))
         assert run("pkg-config", "--modversion", "ropeinstant", env=listed).strip() == version

@@ -11,14 +11,19 @@ from decoded import SETTINGS, codes_of, exact, refusal, setting_refusal
 LIMIT = 2 ** 40  # of a scene number to encode
 GRADED_LIMIT = 2 ** 38  # of an ACES number on the graded road
 GRADED_OFF = 2  # 02, item 7: the units that its scene numbers' ACES numbers may be off
-CONVERSIONS = range(8)
-PIXEL_TO_SCENE, SCENE_TO_PIXEL, PIXEL_TO_ACES, ACES_TO_PIXEL, ACES_TO_HALF, HALF_TO_ACES, GRADED_TO_PIXEL, GRADED_TO_SCENE = CONVERSIONS
+EXACT, TOLERATED = 0, 5  # the units that a pixel's ACES numbers may be off in a channel: on the way back, and, 02, item 8, on the tolerant one
+APART = 12  # 02, item 8: the units that some channel of two pixels' ACES numbers differs at least
+CONVERSIONS = range(9)
+(
+    PIXEL_TO_SCENE, SCENE_TO_PIXEL, PIXEL_TO_ACES, ACES_TO_PIXEL, ACES_TO_HALF, HALF_TO_ACES, GRADED_TO_PIXEL, GRADED_TO_SCENE, ACES_TO_PIXEL_TOLERANT,
+) = CONVERSIONS
 GRADED = GRADED_TO_PIXEL, GRADED_TO_SCENE
+WAYS_BACK = {ACES_TO_PIXEL: EXACT, ACES_TO_PIXEL_TOLERANT: TOLERATED}
 # a record: curve, width, EI, and three codes, numbers, or halves by their bits
 PIXEL, NUMBERS, HALVES = Struct("<BBH3H"), Struct("<BBH3q"), Struct("<BBH3H")
-READ = (PIXEL, NUMBERS, PIXEL, NUMBERS, NUMBERS, HALVES, NUMBERS, NUMBERS)  # by each conversion
-WRITTEN = (NUMBERS, PIXEL, NUMBERS, PIXEL, HALVES, NUMBERS, PIXEL, NUMBERS)
-TO_OR_FROM_ACES = PIXEL_TO_ACES, ACES_TO_PIXEL, ACES_TO_HALF, HALF_TO_ACES, *GRADED
+READ = (PIXEL, NUMBERS, PIXEL, NUMBERS, NUMBERS, HALVES, NUMBERS, NUMBERS, NUMBERS)  # by each conversion
+WRITTEN = (NUMBERS, PIXEL, NUMBERS, PIXEL, HALVES, NUMBERS, PIXEL, NUMBERS, PIXEL)
+TO_OR_FROM_ACES = PIXEL_TO_ACES, ACES_TO_HALF, HALF_TO_ACES, *GRADED, *WAYS_BACK
 MATRICES = {  # curve: scale, rows; 02, item 3: none is published for curve 2
     4: (10 ** 18, (
         (750957362824734131, 144422786709757084, 104619850465508965),
@@ -90,19 +95,20 @@ def graded(s, triple):
     return scenes
 
 
-def pixel_of(table, s, triple):
-    """the codes of the pixel of a setting with exactly this ACES triple, or None. A channel of the pixel's decoded numbers is the inverse's
-    row product with numbers at most a half from the triple, so it lies in an interval; each pixel in the intervals is tried."""
+def pixel_of(table, s, triple, off=EXACT):
+    """the codes of the pixel of a setting whose ACES triple is at most so many units off this one in every channel, or None. A channel of the
+    pixel's decoded numbers is the inverse's row product with numbers at most a half from its ACES triple, and so at most that and a half from this
+    one. So it lies in an interval; each pixel in the intervals is tried."""
     over, rows = INVERSES[s[0]]
     codes, number = codes_of(s), table[s].get
     found = [()]
     for row in rows:
-        middle, reach = 2 * sum(m * x for m, x in zip(row, triple)), sum(abs(m) for m in row)
+        middle, reach = 2 * sum(m * x for m, x in zip(row, triple)), (2 * off + 1) * sum(abs(m) for m in row)
         low, high = -((reach - middle) // (2 * over)), (middle + reach) // (2 * over)
         between = codes[bisect_left(codes, low, key=number):bisect_right(codes, high, key=number)]
         found = [some + (n,) for some in found for n in between]
-    found = [pixel for pixel in found if aces(s, *map(number, pixel)) == list(triple)]
-    assert len(found) < 2, (s, triple, found)
+    found = [pixel for pixel in found if units_off(s, map(number, pixel), triple) <= off]
+    assert len(found) < 2, (s, triple, off, found)
     return found[0] if found else None
 
 
@@ -147,7 +153,7 @@ def one(table, conversion, s, channels):
             return 14
         scenes = graded(s, channels)
         return scenes if conversion == GRADED_TO_SCENE else [nearest(table, s, x) for x in scenes]
-    return pixel_of(table, s, channels) or 10
+    return pixel_of(table, s, channels, WAYS_BACK[conversion]) or 10
 
 
 def convert(table, conversion, data, output):

@@ -58,6 +58,20 @@ static uint32_t halves_of(const uint8_t *pixels, size_t length, uint8_t *halves,
     return number != 0 ? number : ropeinstant_aces_to_half(out, length / 10 * 28, halves, room, at);
 }
 
+/* pixels to ACES records, each number moved by 5 units */
+static uint32_t moved_of(const uint8_t *pixels, size_t length, uint8_t *aces, size_t room, uint64_t *at)
+{
+    uint32_t number = ropeinstant_pixel_to_aces(pixels, length, aces, room, at);
+    for (size_t k = 0; number == 0 && k < *at; k++)
+        for (size_t byte = 28 * k + 4; byte < 28 * (k + 1); byte += 8) {
+            int64_t units;
+            memcpy(&units, aces + byte, sizeof units);
+            units += 5;
+            memcpy(aces + byte, &units, sizeof units);
+        }
+    return number;
+}
+
 static void *run(void *of)
 {
     struct job *job = of;
@@ -105,6 +119,7 @@ int main(void)
         {"half to ACES", ropeinstant_half_to_aces, 10, WITH_MATRIX, halves_of},
         {"graded to pixel", ropeinstant_graded_to_pixel, 28, WITH_MATRIX, ropeinstant_pixel_to_aces},
         {"graded to scene", ropeinstant_graded_to_scene, 28, WITH_MATRIX, ropeinstant_pixel_to_aces},
+        {"tolerant ACES to pixel", ropeinstant_aces_to_pixel_tolerant, 28, WITH_MATRIX, moved_of},
     };
     const struct {
         const char *name;

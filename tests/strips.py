@@ -6,8 +6,8 @@ import random, subprocess, sys, time
 from binary16 import END, units_of
 from decoded import codes_of
 from rules import (
-    ACES_TO_HALF, ACES_TO_PIXEL, CONVERSIONS, GRADED, GRADED_LIMIT, GRADED_TO_PIXEL, HALF_TO_ACES, LIMIT, PIXEL, PIXEL_TO_ACES, PIXEL_TO_SCENE, READ,
-    SCENE_TO_PIXEL, SETTINGS, WRITTEN, aces, convert, numbers, setting_check,
+    ACES_TO_HALF, ACES_TO_PIXEL, ACES_TO_PIXEL_TOLERANT, CONVERSIONS, GRADED, GRADED_LIMIT, GRADED_TO_PIXEL, HALF_TO_ACES, LIMIT, PIXEL, PIXEL_TO_ACES,
+    PIXEL_TO_SCENE, READ, SCENE_TO_PIXEL, SETTINGS, WAYS_BACK, WRITTEN, aces, convert, numbers, setting_check,
 )
 
 CHOSEN = [s for s in SETTINGS if s[1] != 16] + [(3, 16, 160), (3, 16, 800), (3, 16, 1600), (4, 16, 0)]
@@ -39,12 +39,17 @@ def scene(pick, ys, s):
     ))
 
 
-def triple(pick, ys, s):
-    """the ACES triple of a pixel; of one in thirty a channel is changed"""
-    made = aces(s, *(ys[n] for n in codes(pick, s)))
+def nudged(pick, triple, off):
+    """a triple, each number moved by so many units at most, often by all of them"""
+    return [x + pick.choice((-off, 0, off, pick.randint(-off, off))) for x in triple]
+
+
+def triple(pick, ys, s, off):
+    """the ACES triple of a pixel, moved by so many units at most in every channel; of one in thirty a channel is moved farther, or changed"""
+    made = nudged(pick, aces(s, *(ys[n] for n in codes(pick, s))), off)
     if pick.randrange(30) == 0:
         i = pick.randrange(3)
-        made[i] = pick.choice((made[i] - 1, made[i] + 1, pick.choice(ENDS), pick.randrange(-2 ** 63, 2 ** 63)))
+        made[i] = pick.choice((made[i] - off - 1, made[i] + off + 1, pick.choice(ENDS), pick.randrange(-2 ** 63, 2 ** 63)))
     return made
 
 
@@ -80,7 +85,7 @@ def channels(pick, ys, s, conversion):
     one = {SCENE_TO_PIXEL: lambda: scene(pick, ys, s), ACES_TO_HALF: lambda: beside_half(pick), HALF_TO_ACES: lambda: half(pick)}
     if conversion in one:
         return [one[conversion]() for _ in range(3)]
-    return (graded_triple if conversion in GRADED else triple)(pick, ys, s)
+    return graded_triple(pick, ys, s) if conversion in GRADED else triple(pick, ys, s, WAYS_BACK[conversion])
 
 
 def strip(pick, table, conversion):
@@ -194,11 +199,14 @@ def main():
     begun = time.time()
     pick = random.Random(int(sys.argv[2]) if len(sys.argv) > 2 else 1)
     table = {s: numbers(s) for s in CHOSEN}
-    todo = [(0, bytes(11), bytes(100)), (0, b"", b""), (1, b"", b""), *end_jobs(table), *jobs(pick, table, CONVERSIONS, 8000)]
+    todo = [(0, bytes(11), bytes(100)), (0, b"", b""), (1, b"", b""), *end_jobs(table), *jobs(pick, table, CONVERSIONS, 9000)]
     seen, done = hold([sys.argv[1]], table, todo)
     assert all(f"refused {n}" in seen for n in (*range(1, 9), *range(10, 15))), seen
     print(f"strips: {len(todo)} strips are converted or refused as the rules say, every byte of the outputs too: {seen}")
-    for name, there, back in ("scene", PIXEL_TO_SCENE, SCENE_TO_PIXEL), ("ACES", PIXEL_TO_ACES, ACES_TO_PIXEL), ("graded", PIXEL_TO_ACES, GRADED_TO_PIXEL):
+    for name, there, back in (
+        ("scene", PIXEL_TO_SCENE, SCENE_TO_PIXEL), ("ACES", PIXEL_TO_ACES, ACES_TO_PIXEL), ("graded", PIXEL_TO_ACES, GRADED_TO_PIXEL),
+        ("tolerant ACES", PIXEL_TO_ACES, ACES_TO_PIXEL_TOLERANT),
+    ):
         strips, records = returned([sys.argv[1]], done, there, back)
         print(f"strips: {strips} pixel strips are returned by {name} to pixel, {records} records")
     print(f"strips: {time.time() - begun:.0f} s")

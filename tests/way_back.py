@@ -1,11 +1,12 @@
 #!/usr/bin/env python3
-"""way_back.py PROGRAM [SEED]: have PROGRAM (target/bin/test_way_back) take ACES records back one by one, each by a call of its own: those of
-random pixels of all settings with a matrix, the same with a channel some units off, random numbers of every size, settings without a matrix, and
-settings that are not valid; hold each answer to the rules of 01 (rules.py), which search the pixels for one that gives the numbers."""
+"""way_back.py PROGRAM [SEED]: have PROGRAM (target/bin/test_way_back) take ACES records back one by one, each by a call of its own, exactly and
+tolerantly: those of random pixels of all settings with a matrix, the same with a channel some units off, random numbers of every size, settings
+without a matrix, and settings that are not valid; hold each answer to the rules of 01 and 02 (rules.py), which search the pixels for one that gives
+the numbers, or numbers near them."""
 import random, subprocess, sys, time
 
 from decoded import codes_of
-from rules import ACES_TO_PIXEL, NUMBERS, WITH_MATRIX, WITHOUT_MATRIX, aces, numbers, pixel_of, setting_check
+from rules import NUMBERS, WAYS_BACK, WITH_MATRIX, WITHOUT_MATRIX, aces, numbers, pixel_of, setting_check
 
 EACH = 3000  # pixels of each setting
 OFF = 1, 2, 3, 5, 8, 12, 16, 40, 300, 2 ** 33, 2 ** 38, 2 ** 40  # units that a channel is moved
@@ -36,24 +37,39 @@ def records(pick, table):
         yield s, [pick.randint(-2 ** 34, 2 ** 34) for _ in range(3)]
 
 
+def asked_of(program, asked):
+    """the line that PROGRAM prints for each record"""
+    data = b"".join(NUMBERS.pack(*s, *triple) for s, triple in asked)
+    lines = subprocess.run([program], input=data, stdout=subprocess.PIPE, check=True).stdout.decode().split("\n")
+    assert not lines.pop() and len(lines) == len(asked), len(lines)
+    return lines
+
+
+def answer(table, s, triple, way):
+    """what the rules give for a record on a way back: the codes, or the number of its refusal"""
+    return setting_check(way, s) or pixel_of(table, s, triple, WAYS_BACK[way]) or 10
+
+
+def line_of(answers):
+    """the line that the program prints for a record: its answers on each way back"""
+    return " | ".join(f"refused {found}" if isinstance(found, int) else " ".join(map(str, found)) for found in answers)
+
+
 def main():
     begun = time.time()
     pick = random.Random(int(sys.argv[2]) if len(sys.argv) > 2 else 1)
     table = {s: numbers(s) for s in WITH_MATRIX}
     asked = list(records(pick, table))
-    data = b"".join(NUMBERS.pack(*s, *triple) for s, triple in asked)
-    out = subprocess.run([sys.argv[1]], input=data, stdout=subprocess.PIPE, check=True).stdout.decode().split("\n")
-    assert len(out) == len(asked) + 1 and not out.pop(), len(out)
-    seen = {}
-    for line, (s, triple) in zip(out, asked):
-        number = setting_check(ACES_TO_PIXEL, s)
-        found = None if number else pixel_of(table, s, triple)
-        want = " ".join(map(str, found)) if found else f"refused {number or 10}"
-        assert line == want, (s, triple, line, want)
-        kind = "pixels" if found else want
-        seen[kind] = seen.get(kind, 0) + 1
-    assert set(seen) == {"pixels", "refused 3", "refused 4", "refused 5", "refused 12", "refused 10"}, seen
-    print(f"way_back: {len(asked)} records, each by a call of its own, come back or are refused as the rules say: {seen} ({time.time() - begun:.0f} s)")
+    seen = {way: {} for way in WAYS_BACK}
+    for line, (s, triple) in zip(asked_of(sys.argv[1], asked), asked):
+        answers = [answer(table, s, triple, way) for way in WAYS_BACK]
+        assert line == line_of(answers), (s, triple, line, answers)
+        for counts, found in zip(seen.values(), answers):
+            kind = f"refused {found}" if isinstance(found, int) else "pixels"
+            counts[kind] = counts.get(kind, 0) + 1
+    exact, tolerant = seen.values()
+    assert {*exact} == {*tolerant} == {"pixels", "refused 3", "refused 4", "refused 5", "refused 12", "refused 10"}, seen
+    print(f"way_back: {len(asked)} records, each by a call of its own, come back or are refused as the rules say: {exact}; tolerantly {tolerant} ({time.time() - begun:.0f} s)")
 
 
 if __name__ == "__main__":

@@ -1,8 +1,8 @@
 //! The contest of one setting: the contestants' times, the shares of pixels that come back a code off, and how far ACES numbers are off.
 use crate::imath::Imath;
 use crate::library::{
-    convert, ropeinstant_aces_to_half, ropeinstant_aces_to_pixel, ropeinstant_graded_to_pixel, ropeinstant_half_to_aces,
-    ropeinstant_pixel_to_aces, Function,
+    convert, ropeinstant_aces_to_half, ropeinstant_aces_to_pixel, ropeinstant_aces_to_pixel_tolerant, ropeinstant_graded_to_pixel,
+    ropeinstant_half_to_aces, ropeinstant_pixel_to_aces, Function,
 };
 use crate::ocio::Ocio;
 use crate::plain::{self, Codes, ACES, HALVES, PIXEL, UNIT};
@@ -27,7 +27,8 @@ pub struct Setting {
     pub ei: u16,
 }
 
-/// Nanoseconds a pixel, of Ropeinstant line by line and in one strip, plain f64, another library and a copy.
+/// Nanoseconds a pixel, of Ropeinstant line by line and in one strip, plain f64, another library and a copy. Of the tolerant way back the exact
+/// one, of the unmoved strip, stands in the place of the other library.
 pub type Times = [Option<f64>; 5];
 
 /// The times of each conversion.
@@ -35,16 +36,19 @@ pub type Times = [Option<f64>; 5];
 pub struct AllTimes {
     pub to_aces: Times,
     pub to_camera: Times,
+    pub tolerant: Times,
+    pub tolerant_of_moved: Times,
     pub graded_to_camera: Times,
     pub to_half: Times,
     pub from_half: Times,
 }
 
-/// A strip of random pixels of a setting, its ACES strip, the same graded, its half strip, and the least times seen.
+/// A strip of random pixels of a setting, its ACES strip, the same moved and graded, its half strip, and the least times seen.
 pub struct Contest {
     pub setting: Setting,
     strip: Vec<u8>,
     aces: Vec<u8>,
+    moved: Vec<u8>,
     graded: Vec<u8>,
     halves: Vec<u8>,
     ocio: Option<Ocio>,
@@ -83,10 +87,11 @@ impl Contest {
         let ocio = Ocio::new(&setting);
         let signals = signals(&setting, &strip);
         let rgb = signals.clone();
-        let (graded, halves) = (plain::warmer(&aces), converted(ropeinstant_aces_to_half, &aces, HALVES * pixels));
+        let (moved, graded) = (plain::moved(&aces), plain::warmer(&aces));
+        let halves = converted(ropeinstant_aces_to_half, &aces, HALVES * pixels);
         let (values, bits) = (in_float32(&aces), vec![0; 3 * pixels]);
         let (imath, times) = (Imath::installed(), AllTimes::default());
-        Contest { setting, strip, aces, graded, halves, ocio, imath, signals, rgb, values, bits, times }
+        Contest { setting, strip, aces, moved, graded, halves, ocio, imath, signals, rgb, values, bits, times }
     }
 
     /// Times each contestant once, on the first pixels of the strip.
@@ -110,8 +115,23 @@ impl Contest {
             least(&mut to[3], pixels, || ocio.to_aces(rgb));
             least(&mut back[3], pixels, || ocio.to_camera(rgb));
         }
+        self.round_of_tolerant(pixels);
         self.round_of_halves(pixels);
         self.round_of_graded(pixels);
+    }
+
+    fn round_of_tolerant(&mut self, pixels: usize) {
+        let strip = &self.strip[..PIXEL * pixels];
+        let (mut returned, mut copied) = (strip.to_vec(), self.aces[..ACES * pixels].to_vec());
+        for (times, aces) in [(&mut self.times.tolerant, &self.aces), (&mut self.times.tolerant_of_moved, &self.moved)] {
+            let aces = &aces[..ACES * pixels];
+            least(&mut times[0], pixels, || convert_lines(ropeinstant_aces_to_pixel_tolerant, aces, ACES, &mut returned, PIXEL));
+            least(&mut times[1], pixels, || convert(ropeinstant_aces_to_pixel_tolerant, aces, &mut returned));
+            assert!(returned == strip);
+            least(&mut times[2], pixels, || assert!(plain::to_camera(aces, &mut returned)));
+            times[3] = self.times.to_camera[0];
+            least(&mut times[4], pixels, || copied.copy_from_slice(aces));
+        }
     }
 
     fn round_of_halves(&mut self, pixels: usize) {

@@ -5,6 +5,7 @@ pub type Function = unsafe extern "C" fn(*const u8, usize, *mut u8, usize, *mut 
 extern "C" {
     pub fn ropeinstant_pixel_to_aces(input: *const u8, input_len: usize, output: *mut u8, output_len: usize, at: *mut u64) -> u32;
     pub fn ropeinstant_aces_to_pixel(input: *const u8, input_len: usize, output: *mut u8, output_len: usize, at: *mut u64) -> u32;
+    pub fn ropeinstant_aces_to_pixel_tolerant(input: *const u8, input_len: usize, output: *mut u8, output_len: usize, at: *mut u64) -> u32;
     pub fn ropeinstant_aces_to_half(input: *const u8, input_len: usize, output: *mut u8, output_len: usize, at: *mut u64) -> u32;
     pub fn ropeinstant_half_to_aces(input: *const u8, input_len: usize, output: *mut u8, output_len: usize, at: *mut u64) -> u32;
     pub fn ropeinstant_graded_to_pixel(input: *const u8, input_len: usize, output: *mut u8, output_len: usize, at: *mut u64) -> u32;

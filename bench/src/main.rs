@@ -34,6 +34,8 @@ fn main() {
     println!("OpenColorIO: {}. Imath: {}.\n", Ocio::version(), Imath::version());
     print_times("pixel to ACES", "OpenColorIO", &contests, |times| &times.to_aces);
     print_times("ACES to pixel", "OpenColorIO", &contests, |times| &times.to_camera);
+    print_times("ACES to pixel, tolerant", "exact", &contests, |times| &times.tolerant);
+    print_times("tolerant, moved master", "exact", &contests, |times| &times.tolerant_of_moved);
     print_times("graded to pixel", "OpenColorIO", &contests, |times| &times.graded_to_camera);
     print_times("ACES to half", "Imath", &contests, |times| &times.to_half);
     print_times("half to ACES", "Imath", &contests, |times| &times.from_half);
@@ -44,7 +46,8 @@ fn main() {
         "Plain f64 reads and writes the same records with the same checks, but its way back gives the nearest codes and refuses nothing;"
     );
     println!("OpenColorIO works in place on float32 signals; turning codes to signals and back is not in its time. Imath takes float32 to halves");
-    println!("and back; reading and writing records is not in its time.");
+    println!("and back; reading and writing records is not in its time. Beside the tolerant way back stands the exact one, of an unmoved master;");
+    println!("a moved one has each number moved by 5 units or less.");
 }
 
 fn print_times(name: &str, other: &str, contests: &[Contest], of: impl Fn(&AllTimes) -> &Times) {

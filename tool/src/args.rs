@@ -1,5 +1,5 @@
 //! The command line.
-use crate::conversion::{Conversion, CONVERSIONS};
+use crate::conversion::{Conversion, CONVERSIONS, TOLERANT_TO_CAMERA, TO_CAMERA};
 use crate::failure::Failure;
 use crate::help;
 use crate::kinds::{named, KINDS};
@@ -86,6 +86,7 @@ fn of_conversion(conversion: &'static Conversion) -> Command {
         .arg(flag("manifest", "Write OUT.manifest: kind, records, settings, SHA-256"))
         .args(holding())
         .arg(kind())
+        .args((conversion.name == TO_CAMERA.name).then(|| flag("tolerant", help::TOLERANT)))
 }
 
 fn looking(name: &'static str, about: &'static str, value: &'static str, help: &'static str) -> Command {
@@ -203,14 +204,20 @@ fn job(name: &str, matches: &ArgMatches) -> Result<Job, Failure> {
         "inspect" => Job::Inspect(files("FILE")),
         "demo" => Job::Demo,
         _ => {
-            let conversion = CONVERSIONS.iter().find(|conversion| conversion.name == name).expect("a conversion");
+            let conversion = CONVERSIONS.into_iter().find(|conversion| conversion.name == name).expect("a conversion");
+            let conversion = if said(matches, "tolerant") { &TOLERANT_TO_CAMERA } else { conversion };
             Job::Convert(conversion, files("IN").remove(0), files("OUT").remove(0))
         }
     })
 }
 
+/// Whether an option is said, where the subcommand has it.
+fn said(matches: &ArgMatches, name: &str) -> bool {
+    matches!(matches.try_get_one::<bool>(name), Ok(Some(true)))
+}
+
 fn options(matches: &ArgMatches) -> Options {
-    let said = |name: &str| matches!(matches.try_get_one::<bool>(name), Ok(Some(true)));
+    let said = |name: &str| said(matches, name);
     let number = |name: &str| matches.get_one::<u64>(name).map(|number| *number as usize);
     let cores = || available_parallelism().map_or(1, usize::from).min(MOST_THREADS);
     Options {
@@ -280,6 +287,16 @@ mod tests {
     }
 
     #[test]
+    fn the_tolerant_way_back_is_asked_for_by_an_option() {
+        for (line, name) in [("to-camera a b", "to-camera"), ("to-camera a b --tolerant", "to-camera --tolerant")] {
+            assert!(matches!(parsed(line), Ok(Request::Do(job @ Job::Convert(..), _)) if job.name() == name), "{}", line);
+        }
+        for line in ["to-aces --tolerant a b", "graded-to-camera --tolerant a b", "check --tolerant a"] {
+            assert!(refused(line).1.contains("'--tolerant'"), "{}", line);
+        }
+    }
+
+    #[test]
     fn wrong_usage_names_the_subcommand_whose_help_to_read() {
         assert_eq!(refused("").1, "ropeinstant: no subcommand");
         assert!(refused("to-acse a b").1.contains("'to-acse'"));
@@ -300,7 +317,10 @@ mod tests {
 
     #[test]
     fn completions_and_man_page() {
-        assert!([Shell::Bash, Shell::Zsh, Shell::Fish].iter().all(|shell| completions(*shell).contains("no-clobber")));
-        assert!(man::page(command()).contains(".SS to\\-camera\n"));
+        for option in ["no-clobber", "tolerant"] {
+            assert!([Shell::Bash, Shell::Zsh, Shell::Fish].iter().all(|shell| completions(*shell).contains(option)));
+        }
+        let page = man::page(command());
+        assert!(page.contains(".SS to\\-camera\n") && page.contains(".B \\-\\-tolerant\n"));
     }
 }

@@ -2,10 +2,12 @@
 //! promises and its refusals.
 use crate::kinds::{Kind, ACES, HALF, PIXEL, SCENE};
 use crate::library::{
-    aces_to_half, aces_to_pixel, graded_to_pixel, graded_to_scene, half_to_aces, pixel_to_aces, pixel_to_scene, scene_to_pixel, Answer,
+    aces_to_half, aces_to_pixel, aces_to_pixel_tolerant, graded_to_pixel, graded_to_scene, half_to_aces, pixel_to_aces, pixel_to_scene,
+    scene_to_pixel, Answer,
 };
 
 pub struct Conversion {
+    /// Its subcommand, with the option that asks for it where there is one.
     pub name: &'static str,
     pub about: &'static str,
     /// What is proved of what it writes, in lines of the help.
@@ -34,13 +36,20 @@ pub const TO_CAMERA: Conversion = Conversion {
     name: "to-camera",
     about: "Converts ACES records back to the pixels that gave them",
     promise: "\
-Each pixel is the only one of its setting with exactly these ACES numbers.
+Each pixel is the only one of its setting with exactly these ACES numbers. With
+--tolerant it is the only one whose ACES numbers are within 5 units of these in
+every channel: two different pixels of a setting differ by at least 12 units in
+some channel. Where to-camera converts a file, it gives the same pixels with
+--tolerant, which also says how many records were moved, and how far.
 ",
     from: &ACES,
     to: &PIXEL,
     convert: aces_to_pixel,
     refusals: &[1, 3, 4, 5, 12, 10],
 };
+
+/// The same by the tolerant way back.
+pub const TOLERANT_TO_CAMERA: Conversion = Conversion { name: "to-camera --tolerant", convert: aces_to_pixel_tolerant, ..TO_CAMERA };
 
 pub const TO_SCENE: Conversion = Conversion {
     name: "to-scene",
@@ -127,6 +136,7 @@ takes every scene record that this writes.
     refusals: &[1, 3, 4, 5, 12, 14],
 };
 
+/// One for each subcommand that converts.
 pub const CONVERSIONS: [&Conversion; 8] =
     [&TO_ACES, &TO_CAMERA, &TO_SCENE, &FROM_SCENE, &TO_HALF, &FROM_HALF, &GRADED_TO_CAMERA, &GRADED_TO_SCENE];
 

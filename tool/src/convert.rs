@@ -1,10 +1,11 @@
 //! The conversions of a file into another.
-use crate::conversion::Conversion;
+use crate::conversion::{Conversion, TOLERANT_TO_CAMERA, TO_CAMERA};
 use crate::failure::{Cause, Failure};
 use crate::input::Input;
 use crate::kinds::Kind;
 use crate::library::Refusal;
 use crate::manifest::{beside, text, Of};
+use crate::moved::Moved;
 use crate::names::shown;
 use crate::output::Output;
 use crate::partial::clear;
@@ -44,13 +45,17 @@ pub fn convert(session: &Session, conversion: &Conversion, from: &Path, to: &Pat
     let whole = reading.input.length.map(|length| length / conversion.from.size() as u64 * conversion.to.size() as u64);
     let output = Output::create(target, whole, !session.options.no_clobber)?;
     let summary = Mutex::new(Summary::default());
+    let moved = (conversion.name == TOLERANT_TO_CAMERA.name).then(|| Mutex::new(Moved::default()));
     let chunk = session.options.split.chunk;
     let file = reading.input.name.clone();
     let records = reading.run(|| {
         let mut made = room(chunk * conversion.to.size())?;
-        let (output, summary, file) = (&output, &summary, &file);
+        let (output, summary, moved, file) = (&output, &summary, &moved, &file);
         Ok(move |part: &[u8], first: u64| {
-            let made = converted(conversion, file, part, first, &mut made)?;
+            let made = match moved {
+                Some(moved) => taken_back(moved, file, part, first, &mut made)?,
+                None => converted(conversion, file, part, first, &mut made)?,
+            };
             if manifest {
                 summary.lock().unwrap().count(conversion.from, part);
             }
@@ -60,6 +65,11 @@ pub fn convert(session: &Session, conversion: &Conversion, from: &Path, to: &Pat
     reading.progress.doing("flushing to disk");
     output.flush()?;
     let mut facts = json!({"out": output.shown(), "records": records});
+    let mut words = String::new();
+    if let Some(moved) = moved.map(|moved| moved.into_inner().unwrap()) {
+        words = moved.words(records);
+        facts["moved"] = moved.json();
+    }
     let listing = if let Some(listed) = listed {
         let (of, from) = (sum_of(&output, &session.signals)?, reading.input.summed().unwrap_or_default());
         facts["sha256"] = of.clone().into();
@@ -78,7 +88,7 @@ pub fn convert(session: &Session, conversion: &Conversion, from: &Path, to: &Pat
         facts["manifest"] = listing.shown().into();
         listing.finish()?;
     }
-    Ok(Facts::new(String::new(), facts))
+    Ok(Facts::new(words, facts))
 }
 
 /// The name of the manifest that is to be written: the one that was asked for, or that is there and would not be true of a new file.
@@ -113,9 +123,22 @@ pub fn converted<'a>(conversion: &Conversion, file: &str, part: &[u8], first: u6
     }
 }
 
+/// The same by the tolerant way back, where the records that were moved are counted. A part that the exact one takes has none, and gives the same
+/// pixels by either: so an unmoved master takes no longer.
+fn taken_back<'a>(moved: &Mutex<Moved>, file: &str, part: &[u8], first: u64, made: &'a mut [u8]) -> Result<&'a [u8], Failure> {
+    let pixels = part.len() / TO_CAMERA.from.size() * TO_CAMERA.to.size();
+    if (TO_CAMERA.convert)(part, &mut made[..pixels]).is_ok() {
+        return Ok(&made[..pixels]);
+    }
+    let made = converted(&TOLERANT_TO_CAMERA, file, part, first, made)?;
+    let of_part = Moved::of(part, made);
+    moved.lock().unwrap().join(&of_part);
+    Ok(made)
+}
+
 /// The words for a refusal of a part's record.
 pub fn refused(refusal: &Refusal, conversion: &Conversion, part: &[u8], first: u64) -> Refused {
     let size = conversion.from.size();
     let at = refusal.record as usize * size;
-    Refused::record(conversion.from, refusal.number, first + refusal.record, &part[at..at + size])
+    Refused::record(conversion, refusal.number, first + refusal.record, &part[at..at + size])
 }

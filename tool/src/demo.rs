@@ -1,6 +1,6 @@
 //! `demo`: a small reel of every setting with an ACES matrix goes to ACES and back, and one of the others to scene and back, in a folder of
 //! its own that is gone afterwards.
-use crate::conversion::{Conversion, FROM_SCENE, TO_ACES, TO_CAMERA, TO_SCENE};
+use crate::conversion::{Conversion, FROM_SCENE, TOLERANT_TO_CAMERA, TO_ACES, TO_CAMERA, TO_SCENE};
 use crate::convert::convert;
 use crate::failure::{Cause, Failure};
 use crate::kinds::{ACES, CHANNELS, PIXEL};
@@ -33,7 +33,9 @@ pub fn demo(session: &Session) -> Result<(), Failure> {
         Err(failure) => return Err(failure),
         Ok(()) => held(false, "", "the damaged copy was converted")?,
     }
-    held(read(&reel)? == read(&back)?, "back.pixels is as it was", "back.pixels is not as it was")
+    held(read(&reel)? == read(&back)?, "back.pixels is as it was", "back.pixels is not as it was")?;
+    shown(session, &TOLERANT_TO_CAMERA, &damaged, &back)?;
+    came_back(&reel, &back)
 }
 
 /// A reel of some settings is converted, and returned.
@@ -45,13 +47,21 @@ fn there_and_back(session: &Session, of: &[Setting], [there, back]: [&Conversion
     say_size(made)?;
     shown(session, back, made, returned)?;
     say_size(returned)?;
+    came_back(reel, returned)
+}
+
+fn came_back(reel: &Path, returned: &Path) -> Result<(), Failure> {
     held(read(reel)? == read(returned)?, "the reel came back, byte for byte", "the reel did not come back")
 }
 
-/// One conversion, with the line that a user would write for it.
+/// One conversion, with the line that a user would write for it, and what it says.
 fn shown(session: &Session, conversion: &Conversion, from: &Path, to: &Path) -> Result<(), Failure> {
     say(&format!("ropeinstant {} {} {}\n", conversion.name, last(from), last(to)))?;
-    convert(session, conversion, from, to).map(drop)
+    let facts = convert(session, conversion, from, to)?;
+    match facts.words.is_empty() {
+        true => Ok(()),
+        false => say(&format!("    {}: {}\n", last(from), facts.words)),
+    }
 }
 
 fn held(holds: bool, words: &str, otherwise: &str) -> Result<(), Failure> {

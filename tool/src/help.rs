@@ -13,6 +13,7 @@ pub const INSPECT: &str = "Shows what a file holds";
 pub const DEMO: &str = "Takes reels to ACES or scene numbers and back; no input";
 pub const PAIR: &str = "Hold the first file, pixels, to the second, its master";
 pub const BY_SCENE: &str = "Go by scene numbers in place of ACES";
+pub const TOLERANT: &str = "Take ACES numbers that are up to 5 units off a pixel's";
 
 const STATUS: &str = "Exit status: 0 done, 1 refused, 2 wrong usage, 3 reading or writing failed.\n";
 
@@ -149,6 +150,9 @@ pub fn of_looking(name: &str) -> String {
 /// Which way to take from ACES numbers to codes.
 const WAYS_TO_CODES: &str = "\
 to-camera is for an untouched master: it refuses a record that no pixel gives.
+to-camera --tolerant is for a master whose numbers another package moved by a
+few units in saving it: it gives the pixel whose ACES numbers are within 5 units
+in every channel, and refuses a record for which there is none.
 graded-to-camera and graded-to-scene are for graded numbers: they take any from
 -2^38 to 2^38, and never say that something was changed. A damaged master may
 come out of them as some pixels or scene numbers without a word.
@@ -178,8 +182,8 @@ like pixels, and are shown where one of the three says that it holds them. It
 shows the settings with their counts, the range of each channel, and the first
 refusal: status 1 if there is one. Pixels are judged as to-scene judges them.
 Where some of them have no ACES matrix it says how many, and that to-aces
-refuses the file. ACES records are judged as to-camera judges them, so that a
-graded record that no pixel gives is refused.
+refuses the file. ACES records are judged as to-camera judges them, without
+--tolerant: a graded or moved record that no pixel gives is refused.
 ";
 
 const INPUT: &str = "\

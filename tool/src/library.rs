@@ -16,6 +16,7 @@ extern "C" {
     fn ropeinstant_scene_to_pixel(input: *const u8, input_len: usize, output: *mut u8, output_len: usize, at: *mut u64) -> u32;
     fn ropeinstant_pixel_to_aces(input: *const u8, input_len: usize, output: *mut u8, output_len: usize, at: *mut u64) -> u32;
     fn ropeinstant_aces_to_pixel(input: *const u8, input_len: usize, output: *mut u8, output_len: usize, at: *mut u64) -> u32;
+    fn ropeinstant_aces_to_pixel_tolerant(input: *const u8, input_len: usize, output: *mut u8, output_len: usize, at: *mut u64) -> u32;
     fn ropeinstant_aces_to_half(input: *const u8, input_len: usize, output: *mut u8, output_len: usize, at: *mut u64) -> u32;
     fn ropeinstant_half_to_aces(input: *const u8, input_len: usize, output: *mut u8, output_len: usize, at: *mut u64) -> u32;
     fn ropeinstant_graded_to_pixel(input: *const u8, input_len: usize, output: *mut u8, output_len: usize, at: *mut u64) -> u32;
@@ -37,6 +38,10 @@ pub fn pixel_to_aces(input: &[u8], output: &mut [u8]) -> Answer {
 
 pub fn aces_to_pixel(input: &[u8], output: &mut [u8]) -> Answer {
     call(ropeinstant_aces_to_pixel, input, output)
+}
+
+pub fn aces_to_pixel_tolerant(input: &[u8], output: &mut [u8]) -> Answer {
+    call(ropeinstant_aces_to_pixel_tolerant, input, output)
 }
 
 pub fn aces_to_half(input: &[u8], output: &mut [u8]) -> Answer {
@@ -92,10 +97,34 @@ mod tests {
         let mut aces = [0; kinds::ACES.size()];
         assert_eq!(pixel_to_aces(&PIXEL, &mut aces), Ok(1));
         assert_eq!(aces, numbers(&PIXEL[..4], ACES)[..]);
-        for back in [aces_to_pixel, graded_to_pixel] {
+        for back in [aces_to_pixel, aces_to_pixel_tolerant, graded_to_pixel] {
             let mut pixel = [0; kinds::PIXEL.size()];
             assert_eq!(back(&aces, &mut pixel), Ok(1));
             assert_eq!(pixel, PIXEL);
+        }
+    }
+
+    #[test]
+    fn the_tolerant_way_back() {
+        let mut pixel = [0; kinds::PIXEL.size()];
+        let refused = |number| Err(Refusal { number, record: 0 });
+        for (off, answer) in [
+            ([5, -5, 5], Ok(1)),
+            ([-5, 5, 0], Ok(1)),
+            ([6, 0, 0], refused(10)),
+            ([0, -6, 0], refused(10)),
+            ([5, 5, 6], refused(10)),
+            ([i64::MIN - ACES[0], 0, 0], refused(10)),
+            ([0, 0, i64::MAX], refused(10)),
+        ] {
+            let record = numbers(&PIXEL[..4], [0, 1, 2].map(|k| ACES[k] + off[k]));
+            assert_eq!(aces_to_pixel(&record, &mut pixel), refused(10));
+            assert_eq!(aces_to_pixel_tolerant(&record, &mut pixel), answer);
+            assert_eq!(pixel, if answer.is_ok() { PIXEL } else { [0; 10] });
+            pixel = [0; 10];
+        }
+        for (setting, number) in [([2, 12, 0x20, 3], 12), ([2, 12, 0, 0], 5), ([2, 16, 0x20, 3], 4), ([5, 12, 0x20, 3], 3)] {
+            assert_eq!(aces_to_pixel_tolerant(&numbers(&setting, [0, i64::MIN, i64::MAX]), &mut pixel), refused(number));
         }
     }
 

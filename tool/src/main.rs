@@ -15,6 +15,7 @@ mod kinds;
 mod library;
 mod man;
 mod manifest;
+mod moved;
 mod names;
 mod output;
 mod partial;

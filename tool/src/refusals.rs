@@ -1,18 +1,19 @@
 //! The refusals: the one table of their numbers and words, and the words for a refused record. The library decides; this only reads the
 //! refused record again.
-use crate::conversion::{FROM_SCENE, TO_SCENE};
+use crate::conversion::{Conversion, FROM_SCENE, TOLERANT_TO_CAMERA, TO_SCENE};
 use crate::half::{not_finite, units};
 use crate::kinds::{Kind, CHANNELS};
 use crate::settings::{listed, Setting, CURVES};
 
 const LIMIT: i64 = 1 << 40; // of a scene number to encode
 const GRADED_LIMIT: i64 = 1 << 38; // of a graded ACES number
+const TOLERATED: i64 = 5; // units that the tolerant way back takes an ACES number for a pixel's
 
 pub struct Refusal {
     pub number: u32,
     pub when: &'static str,
     /// The words for a record that it refuses, with the value.
-    cause: fn(&Kind, &Setting, &[u8]) -> String,
+    cause: fn(&Conversion, &Setting, &[u8]) -> String,
 }
 
 /// In the order in which they are tried. 2, an output that is too short, is not here: the command makes room for every record.
@@ -28,7 +29,7 @@ pub const REFUSALS: [Refusal; 12] = [
     Refusal { number: 7, when: "a scene number to encode is outside -2^40 to 2^40", cause: scene_out_of_range },
     Refusal { number: 8, when: "a half float is infinite or not a number", cause: half_not_finite },
     Refusal { number: 14, when: "a graded ACES number is outside -2^38 to 2^38", cause: graded_out_of_range },
-    Refusal { number: 10, when: "no pixel of the setting has these ACES numbers", cause: no_pixel },
+    Refusal { number: 10, when: "no pixel of the setting has these ACES numbers (--tolerant: near these)", cause: no_pixel },
 ];
 
 /// A refusal of an input: its number, its place and the words for it.
@@ -41,12 +42,12 @@ pub struct Refused {
 }
 
 impl Refused {
-    /// Of a record, whose place in the whole input is `index`.
-    pub fn record(kind: &Kind, number: u32, index: u64, record: &[u8]) -> Refused {
-        let byte = index * kind.size() as u64;
+    /// Of a record, whose place in the whole input is `index`, by a conversion.
+    pub fn record(conversion: &Conversion, number: u32, index: u64, record: &[u8]) -> Refused {
+        let byte = index * conversion.from.size() as u64;
         let cause = REFUSALS.iter().find(|refusal| refusal.number == number).map(|refusal| refusal.cause);
         let words = match cause {
-            Some(cause) => cause(kind, &Setting::of(record), record),
+            Some(cause) => cause(conversion, &Setting::of(record), record),
             None => "a cause that this command does not know".to_string(),
         };
         Refused { number, record: index, byte, words: format!("record {} (byte {}): {}", index, byte, words) }
@@ -64,7 +65,7 @@ impl Refused {
     }
 }
 
-fn curve(_: &Kind, setting: &Setting, _: &[u8]) -> String {
+fn curve(_: &Conversion, setting: &Setting, _: &[u8]) -> String {
     format!("curve {} is not {}", setting.curve, any_curve())
 }
 
@@ -72,12 +73,12 @@ fn any_curve() -> String {
     listed(CURVES.iter().map(|curve| curve.byte.into()), "or")
 }
 
-fn width(_: &Kind, setting: &Setting, _: &[u8]) -> String {
+fn width(_: &Conversion, setting: &Setting, _: &[u8]) -> String {
     let widths = setting.curve().map_or(&[][..], |curve| curve.widths);
     not_one_of("width", setting.width.into(), setting, widths.iter().map(|width| width.byte.into()).collect())
 }
 
-fn ei(_: &Kind, setting: &Setting, _: &[u8]) -> String {
+fn ei(_: &Conversion, setting: &Setting, _: &[u8]) -> String {
     let eis = setting.curve().map_or(&[][..], |curve| curve.eis);
     not_one_of("EI", setting.ei, setting, eis.to_vec())
 }
@@ -88,8 +89,8 @@ fn not_one_of(what: &str, value: u16, setting: &Setting, known: Vec<u16>) -> Str
 }
 
 /// With the conversions that take records of such a curve.
-fn no_matrix(kind: &Kind, setting: &Setting, _: &[u8]) -> String {
-    let (curve, there, back) = (setting.curve, TO_SCENE.name, FROM_SCENE.name);
+fn no_matrix(conversion: &Conversion, setting: &Setting, _: &[u8]) -> String {
+    let (kind, curve, there, back) = (conversion.from, setting.curve, TO_SCENE.name, FROM_SCENE.name);
     if kind == TO_SCENE.from {
         format!("curve {} has no ACES matrix: {} converts its pixel records, and {} converts them back", curve, there, back)
     } else {
@@ -97,36 +98,36 @@ fn no_matrix(kind: &Kind, setting: &Setting, _: &[u8]) -> String {
     }
 }
 
-fn code_not_divisible(kind: &Kind, setting: &Setting, record: &[u8]) -> String {
+fn code_not_divisible(conversion: &Conversion, setting: &Setting, record: &[u8]) -> String {
     let step: i64 = setting.width().map_or(1, |width| width.step).into();
-    match CHANNELS.iter().zip(kind.numbers(record)).find(|(_, code)| code % step != 0) {
+    match CHANNELS.iter().zip(conversion.from.numbers(record)).find(|(_, code)| code % step != 0) {
         Some((channel, code)) => format!("{} code {} is not a multiple of {}", channel, code, step),
         None => "a code is not one of its width's".to_string(),
     }
 }
 
-fn code_below_first(kind: &Kind, setting: &Setting, record: &[u8]) -> String {
+fn code_below_first(conversion: &Conversion, setting: &Setting, record: &[u8]) -> String {
     let first = setting.width().map_or(0, |width| width.lowest).into();
-    match CHANNELS.iter().zip(kind.numbers(record)).find(|(_, code)| *code < first) {
+    match CHANNELS.iter().zip(conversion.from.numbers(record)).find(|(_, code)| *code < first) {
         Some((channel, code)) => format!("{} code {} is below {}", channel, code, first),
         None => "a code is below its first".to_string(),
     }
 }
 
-fn code_above_top(kind: &Kind, setting: &Setting, record: &[u8]) -> String {
+fn code_above_top(conversion: &Conversion, setting: &Setting, record: &[u8]) -> String {
     let top = setting.width().map_or(u16::MAX, |width| width.highest()).into();
-    match CHANNELS.iter().zip(kind.numbers(record)).find(|(_, code)| *code > top) {
+    match CHANNELS.iter().zip(conversion.from.numbers(record)).find(|(_, code)| *code > top) {
         Some((channel, code)) => format!("{} code {} is above {}", channel, code, top),
         None => "a code is above its top".to_string(),
     }
 }
 
-fn scene_out_of_range(kind: &Kind, _: &Setting, record: &[u8]) -> String {
-    outside(LIMIT, "scene number", kind, record)
+fn scene_out_of_range(conversion: &Conversion, _: &Setting, record: &[u8]) -> String {
+    outside(LIMIT, "scene number", conversion.from, record)
 }
 
-fn graded_out_of_range(kind: &Kind, _: &Setting, record: &[u8]) -> String {
-    outside(GRADED_LIMIT, "ACES number", kind, record)
+fn graded_out_of_range(conversion: &Conversion, _: &Setting, record: &[u8]) -> String {
+    outside(GRADED_LIMIT, "ACES number", conversion.from, record)
 }
 
 /// The first number that is beyond a limit, above or below 0.
@@ -137,33 +138,42 @@ fn outside(limit: i64, called: &str, kind: &Kind, record: &[u8]) -> String {
     }
 }
 
-fn half_not_finite(kind: &Kind, _: &Setting, record: &[u8]) -> String {
-    let bits = kind.numbers(record).map(|bits| bits as u16);
+fn half_not_finite(conversion: &Conversion, _: &Setting, record: &[u8]) -> String {
+    let bits = conversion.from.numbers(record).map(|bits| bits as u16);
     match CHANNELS.iter().zip(bits).find(|(_, bits)| units(*bits).is_none()) {
         Some((channel, bits)) => format!("{} half {:#06x} is {}", channel, bits, not_finite(bits)),
         None => "a half is infinite or not a number".to_string(),
     }
 }
 
-fn no_pixel(kind: &Kind, setting: &Setting, record: &[u8]) -> String {
-    let triple: Vec<String> = kind.numbers(record).iter().map(i64::to_string).collect();
-    format!("no pixel of {} has the ACES numbers {}", setting, triple.join(", "))
+fn no_pixel(conversion: &Conversion, setting: &Setting, record: &[u8]) -> String {
+    let triple = conversion.from.numbers(record).map(|number| number.to_string()).join(", ");
+    if conversion.name == TOLERANT_TO_CAMERA.name {
+        format!("no pixel of {} has ACES numbers within {} units of {} in every channel", setting, TOLERATED, triple)
+    } else {
+        format!("no pixel of {} has the ACES numbers {}", setting, triple)
+    }
 }
 
 #[cfg(test)]
 mod tests {
     use super::*;
-    use crate::conversion::CONVERSIONS;
-    use crate::kinds::{ACES, HALF, PIXEL, SCENE};
+    use crate::conversion::{CONVERSIONS, FROM_HALF, GRADED_TO_CAMERA, TO_ACES, TO_CAMERA};
 
     fn words(number: u32, index: u64, setting: (u8, u8, u16), codes: [u16; 3]) -> String {
-        words_of(&PIXEL, number, index, setting, codes)
+        words_of(&TO_ACES, number, index, setting, codes)
     }
 
-    fn words_of(kind: &Kind, number: u32, index: u64, setting: (u8, u8, u16), codes: [u16; 3]) -> String {
+    fn words_of(conversion: &Conversion, number: u32, index: u64, setting: (u8, u8, u16), codes: [u16; 3]) -> String {
         let mut record = Setting { curve: setting.0, width: setting.1, ei: setting.2 }.bytes().to_vec();
         codes.iter().for_each(|code| record.extend(code.to_le_bytes()));
-        Refused::record(kind, number, index, &record).words
+        Refused::record(conversion, number, index, &record).words
+    }
+
+    /// The words for three numbers of curve 3, width 12, EI 800.
+    fn words_of_numbers(conversion: &Conversion, number: u32, numbers: [i64; 3]) -> String {
+        let record = [&[3, 12, 0x20, 3][..], &numbers.map(i64::to_le_bytes).concat()].concat();
+        Refused::record(conversion, number, 2, &record).words
     }
 
     #[test]
@@ -187,7 +197,7 @@ mod tests {
 
     #[test]
     fn the_first_half_that_is_not_finite() {
-        let words = |halves| words_of(&HALF, 8, 3, (4, 12, 0), halves);
+        let words = |halves| words_of(&FROM_HALF, 8, 3, (4, 12, 0), halves);
         assert_eq!(words([0x7bff, 0x7c00, 0xffff]), "record 3 (byte 30): green half 0x7c00 is plus infinity");
         assert_eq!(words([0xfc00, 0, 0]), "record 3 (byte 30): red half 0xfc00 is minus infinity");
         assert_eq!(words([0, 0, 0x7c01]), "record 3 (byte 30): blue half 0x7c01 is not a number");
@@ -195,20 +205,25 @@ mod tests {
 
     #[test]
     fn the_first_number_outside_its_limits() {
-        let words = |kind, number, numbers: [i64; 3]| {
-            let record = [&[3, 12, 0x20, 3][..], &numbers.map(i64::to_le_bytes).concat()].concat();
-            Refused::record(kind, number, 2, &record).words
-        };
-        let graded = |numbers| words(&ACES, 14, numbers);
+        let graded = |numbers| words_of_numbers(&GRADED_TO_CAMERA, 14, numbers);
         let limits = "is outside -274877906944 to 274877906944";
         assert_eq!(graded([1 << 38, -(1 << 38) - 1, i64::MAX]), format!("record 2 (byte 56): green ACES number -274877906945 {}", limits));
         assert_eq!(graded([i64::MIN, 1 << 40, 0]), format!("record 2 (byte 56): red ACES number -9223372036854775808 {}", limits));
         assert_eq!(graded([0, -(1 << 38), (1 << 38) + 1]), format!("record 2 (byte 56): blue ACES number 274877906945 {}", limits));
         let limits = "is outside -1099511627776 to 1099511627776";
         assert_eq!(
-            words(&SCENE, 7, [1 << 40, (1 << 40) + 1, 0]),
+            words_of_numbers(&FROM_SCENE, 7, [1 << 40, (1 << 40) + 1, 0]),
             format!("record 2 (byte 56): green scene number 1099511627777 {}", limits)
         );
+    }
+
+    #[test]
+    fn no_pixel_says_how_near_one_was_looked_for() {
+        let words = |conversion| words_of_numbers(conversion, 10, [-238167, 0, i64::MIN]);
+        let pixel = "record 2 (byte 56): no pixel of curve 3, width 12, EI 800 has";
+        assert_eq!(words(&TO_CAMERA), format!("{} the ACES numbers -238167, 0, -9223372036854775808", pixel));
+        let near = "ACES numbers within 5 units of -238167, 0, -9223372036854775808 in every channel";
+        assert_eq!(words(&TOLERANT_TO_CAMERA), format!("{} {}", pixel, near));
     }
 
     #[test]
@@ -228,13 +243,13 @@ mod tests {
 
     #[test]
     fn no_matrix_says_which_conversions_take_the_records() {
-        let words = |kind: &Kind| Refused::record(kind, 12, 5, &vec![2; kind.size()]).words;
+        let words = |conversion: &Conversion| Refused::record(conversion, 12, 5, &vec![2; conversion.from.size()]).words;
         let pixel = "curve 2 has no ACES matrix: to-scene converts its pixel records, and from-scene converts them back";
-        assert_eq!(words(&PIXEL), format!("record 5 (byte 50): {}", pixel));
+        assert_eq!(words(&TO_ACES), format!("record 5 (byte 50): {}", pixel));
         let aces = "curve 2 has no ACES matrix, and so no ACES records: from-scene converts its scene records";
-        assert_eq!(words(&ACES), format!("record 5 (byte 140): {}", aces));
+        assert_eq!(words(&TO_CAMERA), format!("record 5 (byte 140): {}", aces));
         let half = "curve 2 has no ACES matrix, and so no half records: from-scene converts its scene records";
-        assert_eq!(words(&HALF), format!("record 5 (byte 50): {}", half));
+        assert_eq!(words(&FROM_HALF), format!("record 5 (byte 50): {}", half));
     }
 
     #[test]
