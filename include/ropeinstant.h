@@ -81,7 +81,7 @@ static inline const char *ropeinstant_words(uint32_t number)
     case ROPEINSTANT_SCENE_OUT_OF_RANGE: return "a scene number to encode is outside -2^40 to 2^40";
     case ROPEINSTANT_FLOAT_NOT_FINITE: return "a float or a half float is infinite or not a number";
     case ROPEINSTANT_FLOAT_OUT_OF_RANGE: return "a float is below -65536 or above 65536";
-    case ROPEINSTANT_NO_PIXEL: return "no pixel of the setting has this ACES triple (tolerant: one within 5 units in every channel)";
+    case ROPEINSTANT_NO_PIXEL: return "no pixel of the setting has this ACES triple (tolerant: nor one within 5 units of it in every channel)";
     case ROPEINSTANT_CODE_BELOW_FIRST: return "a code is below the first code of its width";
     case ROPEINSTANT_NO_MATRIX: return "the curve has no ACES matrix";
     case ROPEINSTANT_CODE_NOT_DIVISIBLE: return "a code of curve 4, width 16, is not a multiple of 16";
@@ -107,7 +107,8 @@ uint32_t ropeinstant_pixel_to_aces(const uint8_t *in, size_t in_len, uint8_t *ou
 uint32_t ropeinstant_aces_to_pixel(const uint8_t *in, size_t in_len, uint8_t *out, size_t out_len, uint64_t *at);
 
 /* The tolerant way back: ACES records (28 bytes) to the pixel records (10 bytes) whose ACES numbers are within 5 units of these in every channel.
- * A strip that ropeinstant_aces_to_pixel converts becomes the same pixels. Refuses by 1 to 5, 10 and 12, and by 10 where no pixel is as near.
+ * A strip that ropeinstant_aces_to_pixel converts becomes the same pixels. Refuses by 1 to 5 and 12, and by 10 where no pixel is within 5 units
+ * in every channel.
  * Its passes are those of ropeinstant_aces_to_pixel. */
 uint32_t ropeinstant_aces_to_pixel_tolerant(const uint8_t *in, size_t in_len, uint8_t *out, size_t out_len, uint64_t *at);
 

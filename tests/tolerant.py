@@ -18,7 +18,7 @@ from rules import (
 from strips import BEYOND, ENDS, GRADED_ENDS, nudged
 from way_back import SETTING_BYTES, answer, asked_of, line_of
 
-AT_RANDOM = 60  # pixels of each setting
+AT_RANDOM = 60  # greys of each setting, and as many other pixels
 CORNERS = list(every((-TOLERATED, TOLERATED), repeat=3))
 FARTHER = 6, 7, 11, 12, 17, 24, 29, 30, 35, 40, 300, 5000
 POWERS = [2 ** k for k in (8, 16, 31, 32, 33, 38, 39, 40, 48, 53, 62, 63)]
@@ -173,7 +173,9 @@ def others(program, driver, pick, table, moves):
         for pixel in pick.sample(list(pixels(pick, s)), 8):
             for triple in moves(pick, aces(s, *(table[s][n] for n in pixel))):
                 asked.append((s, triple, [answer(table, s, triple, way) for way in WAYS_BACK]))
-    return len(asked), by_records(program, driver, asked)
+    back = by_records(program, driver, asked)
+    assert 0 < back < len(asked), back
+    return len(asked), back
 
 
 def settings(program, driver):

@@ -47,6 +47,7 @@ pub fn write_back(s: Setting, d: Decoder, t: &[u64; 128], r: &[u8], out: &mut [u
     requires { ⌜ length (now out) ≡ pixelSize ⌝ }
     ensures { λ _. ⌜ now (out .exit) ≡ pixelRecord s (candidatePixel s (tripleIn (now (r .entry)))) ⌝ }
 {
-    let p = way_back::candidate(s, d, t, records::triple_in(r));
+    let a = records::triple_in(r);
+    let p = way_back::candidate(s, d, t, a.red, a.green, a.blue);
     records::put_pixel(out, s, p);
 }

@@ -5,6 +5,7 @@ use mathlib.Core.Logic.{_↔_}
 use mathlib.Core.Path.{_≡_, refl, ap, sym, _∙_, subst}
 use Prim.Native.Nat.{ℕ, _<_}
 use native.Mathlib.Omega.{arith}
+use lib.Dec.{lit<}
 use Rattle.rules.specs.declared.Check.{Check}
 use Rattle.rules.specs.declared.Check.the-variants.{Passed, Refused}
 use Rattle.rules.specs.declared.Distance.{Distance}
@@ -20,11 +21,12 @@ use Rattle.rules.specs.Refusal.{then, numberOf, numberOfCheck}
 use Rattle.rules.specs.Result.{Result, refusedBy, single}
 use Rattle.rules.specs.Setting.{acesCheck, ValidForAces}
 use Rattle.rules.specs.WayBack.{within3, codesFound, foundCheck, distanceOf}
+use Rattle.rules.proofs.Never.{aces-never}
 use Rattle.rules.proofs.Results.{number-bounds}
 use Rattle.rules.proofs.Settings.{refused-never}
 use Rattle.aces.specs.OfPixel.{pixelAces}
 use Rattle.way_back.specs.Back.{pixelFor, wayBackResult}
-use Rattle.way_back.proofs.Theorems.{found-gives, one-pixel, nothing-gives}
+use Rattle.way_back.proofs.Theorems.{found-gives, one-pixel, nothing-gives, nothing-found}
 use Rattle.promise.specs.Words.{refusalOf, WithoutPixel, IsOnlyPixel, GivesOnly}
 
 pub refusal-positive : (s : Setting) → 0 < refusalOf s
@@ -83,6 +85,19 @@ module _ (k : Distance) (s : Setting) (a : Triple) (G : Pixel → Type 0) (reads
       go : (x : Check) (f : Found) → Judged s G x f → GivesOnly s G (single x (codesFound f))
       go _ _ (Judged.returned p o) = GivesOnly.returns p o
       go _ _ (Judged.refused why f w n) = subst (λ (m : ℕ). GivesOnly s G (refusedBy m 0)) (sym n) (GivesOnly.refuses w)
+
+  -- by 10 exactly when the setting is valid and no pixel of it gives the numbers
+  pub ten-exactly : (wayBackResult (distanceOf k) s a .number ≡ 10) ↔ (ValidForAces s × ((p : Pixel) → IsPixel s p → G p → ⊥))
+  unfolding wayBackResult
+  ten-exactly = (go (acesCheck s) refl (pixelFor e s a) refl, λ n. rw (n .0, none (n .0) (n .1)))
+    where
+      none : ValidForAces s → ((p : Pixel) → IsPixel s p → G p → ⊥) → pixelFor (distanceOf k) s a ≡ found.Found.Nothing
+      none v n = nothing-found k s v a (λ p i h. n p i (reads v p i .1 h))
+
+      go : (x : Check) → acesCheck s ≡ x → (f : Found) → pixelFor (distanceOf k) s a ≡ f → single (then x (foundCheck f)) (codesFound f) .number ≡ 10 → ValidForAces s × ((p : Pixel) → IsPixel s p → G p → ⊥)
+      go (Refused why) h f g t = absurd (aces-never 10 (lit< tt) (λ d. omega arith) s (ap numberOfCheck h ∙ t))
+      go Passed v (found.Found.Pixel p) g t = absurd (omega arith)
+      go Passed v found.Found.Nothing g t = (v, λ p i h. nothing-gives k s v a g p i (reads v p i .0 h))
 
   -- so it refuses exactly when the setting is not valid or no pixel of it gives the numbers
   pub one-refuses : (0 < wayBackResult (distanceOf k) s a .number) ↔ WithoutPixel s G

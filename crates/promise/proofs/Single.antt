@@ -83,9 +83,6 @@ numbers-read s a v p i = let w = within3-equal a (pixelAces s p) in (λ e. w .1 
 
 -- ---- a record, judged by a way back
 module _ (k : Distance) (G : List ℕ → Pixel → Type 0) (r : List ℕ) (reads : Reads k (settingOf r) (tripleIn r) (G r)) where
-  abbrev verdict : Check → Found → Type 0
-  verdict = Judged (settingOf r) (G r)
-
   abbrev f : Found
   f = pixelFor (distanceOf k) (settingOf r) (tripleIn r)
 

@@ -19,7 +19,7 @@ use Rattle.rules.specs.declared.Pixel.{Pixel}
 use Rattle.rules.specs.declared.Refusal.{Refusal}
 use Rattle.rules.specs.Record.{IsBytes, settingOf, tripleIn, codeBytes, pixelSize, numbersSize}
 use Rattle.rules.specs.Result.{Result, done, refusedBy, stripResult}
-use Rattle.rules.specs.Strip.{Conversion, recordCheck, records, recordAt, written, scanOf, answerOf, outputAfter, resultOf, stripAfter}
+use Rattle.rules.specs.Strip.{Conversion, recordCheck, recordAt, scanOf, answerOf, outputAfter, resultOf, stripAfter}
 use Rattle.rules.specs.WayBack.{within3, distanceOf}
 use Rattle.rules.proofs.Records.{length-record}
 use Rattle.rules.proofs.Results.{done-answer, refused-answer}

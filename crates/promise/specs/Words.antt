@@ -1,7 +1,8 @@
--- 01, "ACES and the way back": "Words of demand 3, for these two conversions." A valid setting is ValidForAces, a pixel of it IsPixel: 02,
--- item 3: "the promise about equal ACES strips covers curves 3 and 4 .. there a setting of curve 2 isn't valid".
+-- 01, "ACES and the way back": "Words of demand 3, for these two conversions.", and what they share with those of 02, item 8. A valid setting is
+-- ValidForAces, a pixel of it IsPixel: 02, item 3: "the promise about equal ACES strips covers curves 3 and 4 .. there a setting of curve 2 isn't
+-- valid".
 -- Assumes nothing.
-use mathlib.Core.List.{List, _++_}
+use mathlib.Core.List.{List}
 use mathlib.Core.Path.{_≡_}
 use Prim.Native.Nat.{ℕ, suc, _*_, _/_, _<_}
 use lib.IntN.{ℤ}

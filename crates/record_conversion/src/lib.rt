@@ -13,7 +13,6 @@ use records::NUMBERS_SIZE;
 use records::PIXEL_SIZE;
 use rules::Check;
 use rules::Distance;
-use rules::Found;
 use rules::Refusal;
 use rules::Setting;
 
@@ -113,7 +112,8 @@ pub fn write_record(k: Kind, s: Setting, d: Decoder, t: &[u64; 128], r: &[u8], o
     }
 }
 
-// An ACES record on the way back, exact or tolerant, in one step: its check, refusal 10, and where it passes what is written for it.
+// An ACES record on the way back, exact or tolerant, in one step: its check, refusal 10, and where it passes what is written for it. (The steps
+// of a way back stand here, and not behind one call, for speed: docs/DECISIONS.md.)
 pub fn convert_aces(
     k: Distance,
     s: Setting,
@@ -128,11 +128,14 @@ pub fn convert_aces(
     ensures { λ x. ⌜ x ≡ backWithin (distanceOf k) .inner (now (r .entry)) ⌝ }
     ensures { λ x. ⌜ now (out .exit) ≡ stretchAfter x (backWithin (distanceOf k) .bytes (now (r .entry))) (now (out .entry)) ⌝ }
 {
-    match way_back::find(k, s, d, t, records::triple_in(r)) {
-        Found::Nothing => Check::Refused(Refusal::NoPixel),
-        Found::Pixel(p) => {
-            records::put_pixel(out, s, p);
-            Check::Passed
-        }
+    let a = records::triple_in(r);
+    if !way_back::all_in_reach(a.red, a.green, a.blue) {
+        return Check::Refused(Refusal::NoPixel);
     }
+    let p = way_back::candidate(s, d, t, a.red, a.green, a.blue);
+    if !way_back::gives(k, s, d, t, p, a.red, a.green, a.blue) {
+        return Check::Refused(Refusal::NoPixel);
+    }
+    records::put_pixel(out, s, p);
+    Check::Passed
 }

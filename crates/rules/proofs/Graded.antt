@@ -10,13 +10,13 @@ use lib.IntN.{ℤ, pos, natAbs}
 use Rattle.whole.specs.Parts.{minus}
 use Rattle.whole.proofs.Apart.{less-or-not}
 use Rattle.rules.specs.declared.Check.the-variants.{Passed, Refused}
-use Rattle.rules.specs.declared.Refusal.the-variants.{NoMatrix, GradedOutOfRange}
+use Rattle.rules.specs.declared.Refusal.the-variants.{GradedOutOfRange}
 use Rattle.rules.specs.declared.Scenes.{Scenes}
 use Rattle.rules.specs.declared.Setting.{Setting}
 use Rattle.rules.specs.declared.Triple.{Triple}
 use Rattle.rules.specs.Choice.{between}
 use Rattle.rules.specs.Refusal.{numberOfCheck, then, refuseUnless}
-use Rattle.rules.specs.Setting.{named, hasMatrix, settingCheck, acesCheck}
+use Rattle.rules.specs.Setting.{settingCheck, acesCheck}
 use Rattle.rules.specs.Pixels.{triple}
 use Rattle.rules.specs.Record.{value, digits, bytesOf, recordOf, settingOf, tripleIn, acesRecord}
 use Rattle.rules.specs.Graded.{gradedLimit, WithinLimits, gradedCheck, gradedChecks, sceneNumbers}
@@ -25,7 +25,7 @@ use Rattle.rules.specs.Conversions.{gradedToScene, gradedToPixel}
 use Rattle.rules.specs.Calls.{gradedBy}
 use Rattle.rules.proofs.Settings.{both, refused-never}
 use Rattle.rules.proofs.Between.{small-between, between-small, test-passed}
-use Rattle.rules.proofs.Never.{Never, unless, after, after-three, setting-never, single-never, strip-never}
+use Rattle.rules.proofs.Never.{Never, unless, after, after-three, aces-never, single-never, strip-never}
 
 abbrev setting : (curve width ei : ℕ) → Setting
 setting curve width ei = record { curve = curve; width = width; ei = ei }
@@ -100,14 +100,10 @@ module _ (m : ℕ) (later : 5 < m) (no-matrix : 12 ≡ m → ⊥) (no-limit : 14
   unfolding gradedCheck
   graded-never a = unless m later (between gradedLimit a) GradedOutOfRange no-limit
 
-  aces-never : (s : Setting) → Never m (acesCheck s)
-  unfolding acesCheck
-  aces-never s = after m later (settingCheck s) (refuseUnless (hasMatrix (named (s .curve))) NoMatrix) (setting-never m later s) (unless m later (hasMatrix (named (s .curve))) NoMatrix no-matrix)
-
   checks-never : (s : Setting) (a : Triple) → Never m (then (acesCheck s) (gradedChecks a))
   unfolding gradedChecks
   checks-never s a =
-      after m later (acesCheck s) (gradedChecks a) (aces-never s)
+      after m later (acesCheck s) (gradedChecks a) (aces-never m later no-matrix s)
       (after-three m later (gradedCheck (a .red .0)) (gradedCheck (a .green .0)) (gradedCheck (a .blue .0)) (graded-never (a .red .0)) (graded-never (a .green .0)) (graded-never (a .blue .0)))
 
   module _ (scenesFor : Setting → Triple → Scenes) where

@@ -12,12 +12,12 @@ use Rattle.rules.specs.declared.Answer as answer
 use Rattle.rules.specs.declared.Check.{Check}
 use Rattle.rules.specs.declared.Check.the-variants.{Passed, Refused}
 use Rattle.rules.specs.declared.Refusal.{Refusal}
-use Rattle.rules.specs.declared.Refusal.the-variants.{PartialRecord, ShortOutput, UnknownCurve, UnknownWidth, UnknownEi}
+use Rattle.rules.specs.declared.Refusal.the-variants.{PartialRecord, ShortOutput, UnknownCurve, UnknownWidth, UnknownEi, NoMatrix}
 use Rattle.rules.specs.declared.Setting.{Setting}
 use Rattle.rules.specs.Choice.{choose, member}
 use Rattle.rules.specs.Refusal.{numberOf, numberOfCheck, then, refuseUnless}
 use Rattle.rules.specs.Result.{single, stripResult}
-use Rattle.rules.specs.Setting.{named, known, widthsOf, eisOf, settingCheck}
+use Rattle.rules.specs.Setting.{named, known, widthsOf, eisOf, settingCheck, hasMatrix, acesCheck}
 use Rattle.rules.specs.Strip.{Conversion, recordCheck, records, orNext, scan, scanOf, answerOf, resultOf}
 
 -- another number than m, and a check that does not answer m
@@ -53,6 +53,12 @@ module _ (m : ℕ) (later : 5 < m) where
           (unless x UnknownCurve (λ e. omega (arith, later)))
           (unless y UnknownWidth (λ e. omega (arith, later)))
           (unless z UnknownEi (λ e. omega (arith, later)))
+
+  -- and for ACES, where m is not 12
+  pub aces-never : (12 ≡ m → ⊥) → (s : Setting) → Never m (acesCheck s)
+  unfolding acesCheck
+  aces-never no-matrix s =
+      after (settingCheck s) (refuseUnless (hasMatrix (named (s .curve))) NoMatrix) (setting-never s) (unless (hasMatrix (named (s .curve))) NoMatrix no-matrix)
 
   -- ---- of one code, number, pixel or record
   pub single-never : {A : Type 0} (x : Check) (values : List A) → Never m x → Other m (single x values .number)

@@ -4,7 +4,7 @@
 use mathlib.Core.Bool.{Bool, true, false}
 use mathlib.Core.Logic.{_↔_, _⊎_, inl, inr}
 use mathlib.Core.Path.{_≡_, refl, sym, ap, subst}
-use Prim.Native.Nat.{ℕ, suc, _+_, _*_, _≤_}
+use Prim.Native.Nat.{ℕ, suc, _*_, _≤_}
 use native.Mathlib.Nat.{le-trans}
 use native.Mathlib.Omega.{arith}
 use lib.Dec.{T}
@@ -37,10 +37,6 @@ near-within e x y n =
     let h = is-true (leZ x (y +ℤ pos e)) (leZ-of (at x) (add (at y) (at (pos e))) (omega (arith, n .high)) .le) in
     let l = is-true (leZ y (x +ℤ pos e)) (leZ-of (at y) (add (at x) (at (pos e))) (omega (arith, n .low)) .le) in
     rw (h, l)
-
--- at distance 0 they are equal
-pub within-equal : (x y : ℤ) → (within 0 x y ≡ true) ↔ (x ≡ y)
-within-equal x y = (λ t. near-same (within-near 0 x y t), λ h. near-within 0 x y (same-near h))
 
 -- three numbers, each at most e from its own of three others
 pub record NearTriple (a b : Triple) (e : ℕ) : Type 0 where

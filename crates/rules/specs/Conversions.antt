@@ -1,7 +1,7 @@
 -- 01, "Records and settings": "The strip conversions are pixel to scene (decoding), scene to pixel (encoding), pixel to ACES, and ACES to pixel
 -- (the way back).", 02, item 6: "strip conversions from ACES records" to half records "and back", item 7: "the strip conversion" of graded
--- numbers, and item 8: "a tolerant way back": what each checks of a record's setting, what it checks of the record after it, and what it writes. The numbers of the codes are a
--- parameter, and so is the scene triple of graded numbers.
+-- numbers, and item 8: "a tolerant way back": what each checks of a record's setting, what it checks of the record after it, and what it writes.
+-- The numbers of the codes are a parameter, and so are the distance of a way back and the scene triple of graded numbers.
 -- Assumes nothing.
 use mathlib.Core.List.{List}
 use Prim.Native.Nat.{ℕ}

@@ -1,8 +1,9 @@
--- 01, "ACES and the way back", and 02, item 8: the pixel that gives three numbers, exactly or nearly. Of a setting it needs its codes, the decoded
--- number of each, and the matrix.
+-- 01, "ACES and the way back", and 02, item 8: the pixel that gives three numbers, exactly or nearly, and how far two pixels are apart. Of a setting
+-- it needs its codes, the decoded number of each, and the matrix.
 -- Assumes nothing.
 use mathlib.Core.Bool.{Bool, false}
 use mathlib.Core.List.{List, []}
+use mathlib.Core.Path.{_≡_}
 use Prim.Native.Nat.{ℕ, zero, suc, _≤_}
 use lib.IntN.{ℤ, pos, natAbs, _+ℤ_, _-ℤ_}
 use lib.Signed.{leZ}
@@ -19,7 +20,7 @@ use Rattle.rules.specs.declared.Found as found
 use Rattle.rules.specs.Choice.{choose, allThree}
 use Rattle.rules.specs.Setting.{codeAt, lastOf}
 use Rattle.rules.specs.Matrix.{Matrix, matrixOf}
-use Rattle.rules.specs.Pixels.{pixel, codes, acesOf}
+use Rattle.rules.specs.Pixels.{IsPixel, pixel, codes, acesOf}
 
 -- a test that two numbers are at most e apart, and that two triples are so in every channel
 abbrev pub within : (e : ℕ) → ℤ → ℤ → Bool
@@ -50,11 +51,11 @@ pixelWith e number m code last a = firstFound (λ r. firstFound (λ g. firstFoun
 unfoldable pub pixelBy : (e : ℕ) → (number : Setting → ℕ → ℤ) → Setting → Triple → Found
 pixelBy e number s a = pixelWith e (number s) (matrixOf s) (codeAt s) (lastOf s) a
 
--- "The way back takes any three signed numbers and returns the pixel of that setting with exactly that ACES triple"
+-- the distance of the way back, which "takes any three signed numbers and returns the pixel of that setting with exactly that ACES triple"
 abbrev pub exact : ℕ
 exact = 0
 
--- 02, item 8: "a tolerant way back: it returns the pixel whose ACES triple is within five units in every channel"
+-- 02, item 8, that of the "tolerant way back: it returns the pixel whose ACES triple is within five units in every channel"
 abbrev pub tolerated : ℕ
 tolerated = 5
 
@@ -81,3 +82,7 @@ pub data Differ (d : ℕ) (a b : Triple) : Type 0 where
   in-red : d ≤ natAbs (a .red .0 -ℤ b .red .0) → Differ d a b
   in-green : d ≤ natAbs (a .green .0 -ℤ b .green .0) → Differ d a b
   in-blue : d ≤ natAbs (a .blue .0 -ℤ b .blue .0) → Differ d a b
+
+-- so do the ACES triples of two different pixels of a setting, where its codes have these numbers
+abbrev pub PixelsApart : (d : ℕ) → (number : ℕ → ℤ) → Setting → Type 0
+PixelsApart d number s = (p q : Pixel) → IsPixel s p → IsPixel s q → (p ≡ q → ⊥) → Differ d (acesOf number (matrixOf s) p) (acesOf number (matrixOf s) q)

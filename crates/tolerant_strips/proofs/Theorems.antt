@@ -14,9 +14,11 @@ use Rattle.rules.specs.declared.Distance.{Distance}
 use Rattle.rules.specs.declared.Distance.the-variants.{Exact, Tolerant}
 use Rattle.rules.specs.declared.Found.{Found}
 use Rattle.rules.specs.declared.Found as found
+use Rattle.rules.specs.declared.Pixel.{Pixel}
 use Rattle.rules.specs.declared.Refusal.the-variants.{ShortOutput, NoPixel}
 use Rattle.rules.specs.declared.Setting.{Setting}
 use Rattle.rules.specs.declared.Triple.{Triple}
+use Rattle.rules.specs.Pixels.{IsPixel}
 use Rattle.rules.specs.Record.{IsBytes, settingOf, tripleIn, pixelSize, numbersSize}
 use Rattle.rules.specs.Refusal.{numberOf}
 use Rattle.rules.specs.Result.{done, refusedBy, stripResult}
@@ -122,6 +124,10 @@ module _ (s : Setting) (a : Triple) where
 
   pub tolerant-one-refuses : (0 < wayBackResult tolerated s a .number) ↔ WithoutPixel s (HasNear s a)
   tolerant-one-refuses = judged.one-refuses Tolerant s a (HasNear s a) (near-reads s a)
+
+  -- by 10 exactly when the setting is valid and there is no such pixel
+  pub tolerant-ten-exactly : (wayBackResult tolerated s a .number ≡ 10) ↔ (ValidForAces s × ((p : Pixel) → IsPixel s p → HasNear s a p → ⊥))
+  tolerant-ten-exactly = judged.ten-exactly Tolerant s a (HasNear s a) (near-reads s a)
 
   -- where the exact way back returns a pixel, the tolerant one returns the same
   pub tolerant-one-as-exact : wayBackResult exact s a .number ≡ 0 → wayBackResult tolerated s a ≡ wayBackResult exact s a

@@ -20,8 +20,7 @@ use Rattle.rules.specs.declared.Found as found
 use Rattle.rules.specs.Setting.{codeAt, lastOf, codeCheck, ValidForAces}
 use Rattle.rules.specs.Decoding.{DecodesCode}
 use Rattle.rules.specs.Matrix.{matrixOf}
-use Rattle.rules.specs.Choice.{choose}
-use Rattle.rules.specs.WayBack.{within3, tried, pixelWith, foundCheck, exact, tolerated, distanceOf}
+use Rattle.rules.specs.WayBack.{within3, pixelWith, foundCheck, exact, tolerated, distanceOf}
 use Rattle.rules.proofs.Settings.{for-aces, aces-valid, refused-never}
 use Rattle.rules.proofs.Bounds.{allowedApart}
 use Rattle.rules.proofs.Within.{NearTriple, within3-near, near-within3, middleTriple, middle-triple}
@@ -41,8 +40,8 @@ use Rattle.way_back.proofs.Reach.{given-reached, reached-given}
 use Rattle.rules.specs.Pixels.{IsPixel, Small3, acesOf}
 use Rattle.aces.specs.OfPixel.{pixelAces}
 
--- a distance e at which numbers still tell the pixel: the inverse leads to within 2 e + 1 units of the number of a code, which is as far from
--- its decoded number as the rules allow, and less than half the gap of the curve from it is nearer than to any other
+-- a distance e at which numbers still tell the pixel. The inverse leads to within 2 e + 1 units of the number of a code, and that is at most
+-- `allowedApart` from its decoded number. What is less than half the gap of the curve from a decoded number is nearer to it than to any other
 abbrev pub NearEnough : (e : ℕ) → Setting → Type 0
 NearEnough e s = (2 * (2 * e + 1 + allowedApart) < decode.gapOf s) × (e ≤ farthest)
 
@@ -147,16 +146,16 @@ module _ (e : ℕ) (s : Setting) (v : ValidForAces s) (t : NearEnough e s) (a : 
   pub out-of-reach : allInReach a ≡ false → found.Found.Nothing ≡ pixelNear e s a
   out-of-reach h = sym (search.none-found e (decoded s) (matrixOf s) (codeAt s) (lastOf s) a (λ q g. unlike (reached q g) h))
 
-  pub trying-finds : tried e (decoded s) (matrixOf s) a (candidatePixel s a) ≡ pixelNear e s a
-  trying-finds = go (within3 e a (pixelAces s (candidatePixel s a))) refl
-    where
-      go : (x : Bool) → within3 e a (pixelAces s (candidatePixel s a)) ≡ x → choose x (found.Found.Pixel (candidatePixel s a)) found.Found.Nothing ≡ pixelNear e s a
-      go true h = sym (search.gives-found e (decoded s) (matrixOf s) (codeAt s) (lastOf s) a (candidatePixel s a) only-candidate (candidate-gives h))
-      go false h =
-          sym
-          (search.none-found e (decoded s) (matrixOf s) (codeAt s) (lastOf s) a
-          (λ q g.
-          unlike (near-within3 e a (pixelAces s (candidatePixel s a)) (subst (λ (p : Pixel). NearTriple a (pixelAces s p) e) (only-candidate q g) (g .numbers))) h))
+  -- the candidate, where it gives such numbers, and else nothing
+  pub candidate-found : within3 e a (pixelAces s (candidatePixel s a)) ≡ true → found.Found.Pixel (candidatePixel s a) ≡ pixelNear e s a
+  candidate-found h = sym (search.gives-found e (decoded s) (matrixOf s) (codeAt s) (lastOf s) a (candidatePixel s a) only-candidate (candidate-gives h))
+
+  pub none-else : within3 e a (pixelAces s (candidatePixel s a)) ≡ false → found.Found.Nothing ≡ pixelNear e s a
+  none-else h =
+      sym
+      (search.none-found e (decoded s) (matrixOf s) (codeAt s) (lastOf s) a
+      (λ q g.
+      unlike (near-within3 e a (pixelAces s (candidatePixel s a)) (subst (λ (p : Pixel). NearTriple a (pixelAces s p) e) (only-candidate q g) (g .numbers))) h))
 
   -- and what it finds is the candidate
   abbrev Found′ : Found → Type 0

@@ -23,7 +23,7 @@ use Rattle.rules.proofs.Settings.{aces-valid}
 use Rattle.rules.proofs.Within.{NearTriple, near-within3, triple-more, same-triple, near-or-differ, differ-less}
 use Rattle.decode.specs.Decoded.{decoded}
 use Rattle.decode.proofs.Theorems.{decoding}
-use Rattle.way_back.specs.Back.{pixelFor, PixelsApart}
+use Rattle.way_back.specs.Back.{pixelFor, AllApart}
 use Rattle.way_back.proofs.Only.{enough-for, near-enough, one-by, PixelGives, pixel-gives, only-candidate}
 use Rattle.rules.specs.Pixels.{IsPixel, acesOf}
 use Rattle.aces.specs.OfPixel.{pixelAces}
@@ -82,7 +82,7 @@ module _ (k : Distance) (s : Setting) (v : ValidForAces s) where
 
 -- ---- "two different pixels of one setting always differ by at least 12 units in some ACES channel": by any numbers that the rules allow for the
 -- codes, and so by the decoded numbers
-pub allowed-apart : (s : Setting) → ValidForAces s → (number : ℕ → ℤ) → ((n : ℕ) → codeCheck s n ≡ Passed → DecodesCode s n (number n)) → PixelsApart number s
+pub allowed-apart : (s : Setting) → ValidForAces s → (number : ℕ → ℤ) → ((n : ℕ) → codeCheck s n ≡ Passed → DecodesCode s n (number n)) → AllApart number s
 allowed-apart s v number allowed p q i j differ = go (near-or-differ (2 * (apart / 2)) (acesOf number (matrixOf s) p) (acesOf number (matrixOf s) q))
   where
     go : NearTriple (acesOf number (matrixOf s) p) (acesOf number (matrixOf s) q) (2 * (apart / 2)) ⊎ Differ (suc (2 * (apart / 2))) (acesOf number (matrixOf s) p) (acesOf number (matrixOf s) q)
@@ -90,5 +90,5 @@ allowed-apart s v number allowed p q i j differ = go (near-or-differ (2 * (apart
     go (inl n) = absurd (differ (one-by s v number allowed (apart / 2) (enough-for (apart / 2) tt tt tt s v) p q i j n))
     go (inr d) = differ-less (lit≤ tt) d
 
-pub pixels-apart : (s : Setting) → ValidForAces s → PixelsApart (decoded s) s
+pub pixels-apart : (s : Setting) → ValidForAces s → AllApart (decoded s) s
 pixels-apart s v = allowed-apart s v (decoded s) (decoding s (aces-valid s v))

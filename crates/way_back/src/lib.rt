@@ -5,14 +5,13 @@ ghost use lib.IntN.{natAbs};
 ghost use Rattle.rules.specs.Choice.{allThree};
 ghost use Rattle.rules.specs.Result.{single};
 ghost use Rattle.rules.specs.Setting.{ValidForAces};
-ghost use Rattle.rules.specs.Matrix.{matrixOf};
-ghost use Rattle.rules.specs.WayBack.{within, within3, tried, codesFound, foundCheck, distanceOf};
+ghost use Rattle.rules.specs.WayBack.{within, within3, codesFound, foundCheck, distanceOf};
 ghost use Rattle.aces_inverse.specs.Reach.{reach, InReach};
-ghost use Rattle.decode.specs.Decoded.{decoded};
+ghost use Rattle.aces.specs.OfPixel.{pixelAces};
 ghost use Rattle.decode.specs.Ready.{Ready};
 ghost use Rattle.way_back.specs.Back.{pixelFor, backResult, wayBackResult};
 ghost use Rattle.way_back.specs.Candidate.{inReach, allInReach, candidatePixel};
-ghost use Rattle.rules.specs.Pixels.{IsPixel};
+ghost use Rattle.rules.specs.Pixels.{IsPixel, triple};
 use decode::decoder::Decoder;
 use rules::Aces;
 use rules::Check;
@@ -23,10 +22,10 @@ use rules::Refusal;
 use rules::Setting;
 use rules::Triple;
 
-// No pixel has an ACES number beyond it.
+// No pixel has an ACES number beyond it, or within the tolerated distance of one beyond it.
 const REACH: i64 = 1 << 38;
 
-// How many units a number of a record may be from the pixel's.
+// How many units a number of a record may be from the pixel's on the tolerant way back.
 const TOLERATED: u8 = 5;
 
 // What the way back over one record answers.
@@ -57,10 +56,11 @@ fn all_three(a: bool, b: bool, c: bool) -> bool
     a && b && c
 }
 
-fn all_in_reach(a: Triple) -> bool
-    ensures { λ r. ⌜ r ≡ allInReach a ⌝ }
+// Three numbers are passed one by one, in registers, for speed (docs/DECISIONS.md).
+pub fn all_in_reach(red: Aces, green: Aces, blue: Aces) -> bool
+    ensures { λ r. ⌜ r ≡ allInReach (triple (red .0) (green .0) (blue .0)) ⌝ }
 {
-    all_three(in_reach(a.red), in_reach(a.green), in_reach(a.blue))
+    all_three(in_reach(red), in_reach(green), in_reach(blue))
 }
 
 // Whether two numbers are at most e units apart. (They are in reach: a sum of any number and e might not fit a word.)
@@ -75,52 +75,69 @@ fn within(e: u8, a: Aces, b: Aces) -> bool
     x <= y + far && y <= x + far
 }
 
-fn triple_within(e: u8, a: Triple, b: Triple) -> bool
-    requires { ⌜ InReach (a .red .0) (a .green .0) (a .blue .0) ⌝ }
+fn all_within(e: u8, red: Aces, green: Aces, blue: Aces, b: Triple) -> bool
+    requires { ⌜ InReach (red .0) (green .0) (blue .0) ⌝ }
     requires { ⌜ InReach (b .red .0) (b .green .0) (b .blue .0) ⌝ }
-    ensures { λ r. ⌜ r ≡ within3 e a b ⌝ }
+    ensures { λ r. ⌜ r ≡ within3 e (triple (red .0) (green .0) (blue .0)) b ⌝ }
 {
     all_three(
-        within(e, a.red, b.red),
-        within(e, a.green, b.green),
-        within(e, a.blue, b.blue),
+        within(e, red, b.red),
+        within(e, green, b.green),
+        within(e, blue, b.blue),
     )
 }
 
 // The only pixel that can give the numbers, exactly or nearly. Where they passed the check, it need not be tried again.
-pub fn candidate(s: Setting, d: Decoder, t: &[u64; 128], a: Triple) -> Pixel
+pub fn candidate(
+    s: Setting,
+    d: Decoder,
+    t: &[u64; 128],
+    red: Aces,
+    green: Aces,
+    blue: Aces,
+) -> Pixel
     requires { ⌜ Ready s d (now t) ⌝ }
     requires { ⌜ ValidForAces s ⌝ }
-    requires { ⌜ InReach (a .red .0) (a .green .0) (a .blue .0) ⌝ }
-    ensures { λ p. ⌜ p ≡ candidatePixel s a ⌝ }
+    requires { ⌜ InReach (red .0) (green .0) (blue .0) ⌝ }
+    ensures { λ p. ⌜ p ≡ candidatePixel s (triple (red .0) (green .0) (blue .0)) ⌝ }
 {
-    let x = aces_inverse::candidate(s, a.red, a.green, a.blue);
+    let x = aces_inverse::candidate(s, red, green, blue);
     encode::pixel_of(s, d, t, x.red, x.green, x.blue)
 }
 
-// A pixel, where it gives numbers at most e units from these.
-fn try_pixel(e: u8, s: Setting, d: Decoder, t: &[u64; 128], p: Pixel, a: Triple) -> Found
+// Whether a pixel gives the numbers, exactly or nearly.
+pub fn gives(
+    k: Distance,
+    s: Setting,
+    d: Decoder,
+    t: &[u64; 128],
+    p: Pixel,
+    red: Aces,
+    green: Aces,
+    blue: Aces,
+) -> bool
     requires { ⌜ Ready s d (now t) ⌝ }
     requires { ⌜ ValidForAces s ⌝ }
     requires { ⌜ IsPixel s p ⌝ }
-    requires { ⌜ InReach (a .red .0) (a .green .0) (a .blue .0) ⌝ }
-    ensures { λ f. ⌜ f ≡ tried e (decoded s) (matrixOf s) a p ⌝ }
+    requires { ⌜ InReach (red .0) (green .0) (blue .0) ⌝ }
+    ensures { λ r. ⌜ r ≡ within3 (distanceOf k) (triple (red .0) (green .0) (blue .0)) (pixelAces s p) ⌝ }
 {
-    if triple_within(e, a, aces::of_pixel(s, d, t, p)) {
-        Found::Pixel(p)
-    } else {
-        Found::Nothing
-    }
+    all_within(distance_of(k), red, green, blue, aces::of_pixel(s, d, t, p))
 }
 
 // The pixel that gives the numbers, exactly or nearly: the candidate, where it does.
-pub fn find(k: Distance, s: Setting, d: Decoder, t: &[u64; 128], a: Triple) -> Found
+fn find(k: Distance, s: Setting, d: Decoder, t: &[u64; 128], a: Triple) -> Found
     requires { ⌜ Ready s d (now t) ⌝ }
     requires { ⌜ ValidForAces s ⌝ }
     ensures { λ f. ⌜ f ≡ pixelFor (distanceOf k) s a ⌝ }
 {
-    if all_in_reach(a) {
-        try_pixel(distance_of(k), s, d, t, candidate(s, d, t, a), a)
+    if all_in_reach(a.red, a.green, a.blue) {
+        let p = candidate(s, d, t, a.red, a.green, a.blue);
+        if gives(k, s, d, t, p, a.red, a.green, a.blue) {
+            Found::Pixel(p)
+        } else {
+            Found::Nothing
+        }
     } else {
         Found::Nothing
     }

@@ -2,7 +2,6 @@
 -- Assumes nothing.
 use mathlib.Core.Path.{ap, _∙_, subst, sym}
 use borrow.Author.Needs.{needs}
-use Rattle.rules.specs.declared.Pixel.{Pixel}
 use Rattle.rules.specs.declared.Triple.{Triple}
 use Rattle.rules.specs.Record.{pixelRecord}
 use Rattle.aces_inverse.specs.Reach.{InReach}
