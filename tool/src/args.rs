@@ -27,7 +27,7 @@ pub enum Job {
 }
 
 impl Job {
-    /// The subcommand that it is of.
+    /// Its subcommand, with the option that asks for the tolerant way back.
     pub fn name(&self) -> &'static str {
         match self {
             Job::Convert(conversion, ..) => conversion.name,

@@ -7,7 +7,7 @@ use crate::settings::{listed, Setting, CURVES};
 
 const LIMIT: i64 = 1 << 40; // of a scene number to encode
 const GRADED_LIMIT: i64 = 1 << 38; // of a graded ACES number
-const TOLERATED: i64 = 5; // units that the tolerant way back takes an ACES number for a pixel's
+const TOLERATED: i64 = 5; // units that an ACES number may be from the pixel's on the tolerant way back
 
 pub struct Refusal {
     pub number: u32,
