@@ -29,7 +29,7 @@ pub const REFUSALS: [Refusal; 12] = [
     Refusal { number: 7, when: "a scene number to encode is outside -2^40 to 2^40", cause: scene_out_of_range },
     Refusal { number: 8, when: "a half float is infinite or not a number", cause: half_not_finite },
     Refusal { number: 14, when: "a graded ACES number is outside -2^38 to 2^38", cause: graded_out_of_range },
-    Refusal { number: 10, when: "no pixel of the setting has these ACES numbers (--tolerant: within 5 units)", cause: no_pixel },
+    Refusal { number: 10, when: "no pixel of the setting has these ACES numbers (--tolerant: near them)", cause: no_pixel },
 ];
 
 /// A refusal of an input: its number, its place and the words for it.
