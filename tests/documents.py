@@ -97,7 +97,7 @@ class Sources:
             elif path.suffix == ".antt" and path.parent.name in ("specs", "proofs"):
                 self.declared[name] = stated(path.read_text())
                 if path.stem == "Theorems":
-                    self.theorems += [(name, n) for n in re.findall(r"(?m)^(?:\w+ )*pub ([^\s:]+) :", path.read_text())]
+                    self.theorems += [(name, n) for n in re.findall(r"(?m)^\s*(?:\w+ )*pub ([^\s:]+) :", path.read_text())]
             elif path.suffix == ".edit":
                 self.declared[name] = {path.stem}
         self.placed = [(path, *path.split("/")[1:3], Path(path).stem) for path in self.declared]

@@ -83,7 +83,7 @@ pub fn check_inner(k: Kind, s: Setting, d: Decoder, t: &[u64; 128], r: &[u8]) ->
 {
     match k {
         Kind::PixelToAces => pixel_record::check_codes(s, r),
-        Kind::AcesToPixel(e) => aces_record::check_triple(e, s, d, t, r),
+        Kind::AcesToPixel(distance) => aces_record::check_triple(distance, s, d, t, r),
         Kind::PixelToScene => pixel_record::check_codes(s, r),
         Kind::SceneToPixel => scene_record::check_numbers(s, r),
         Kind::AcesToHalf => Check::Passed,
