@@ -1,5 +1,4 @@
--- The only pixel that can give three ACES numbers, or numbers near them: the codes nearest to the scene numbers that the inverse matrix makes of
--- them.
+-- The only pixel that can give three ACES numbers, exactly or nearly: the codes nearest to the scene numbers that the inverse matrix makes of them.
 -- Assumes nothing.
 use mathlib.Core.Bool.{Bool}
 use Prim.Native.Nat.{ℕ}

@@ -1,4 +1,5 @@
--- `distance_of` meets its contract: for either way back it answers the figure of the rules.
+-- `distance_of` meets its contract: for either way back it answers the figure of the rules. (The toolchain finds this proof
+-- by itself; it is written out so that another figure is refused here, and not at the functions that call it.)
 -- Assumes nothing.
 use mathlib.Core.Path.{ap, sym}
 use borrow.Author.Needs.{needs}
