@@ -1,4 +1,7 @@
 // ACES numbers: a row of the matrix times three scene numbers, over the scale, rounded once.
+
+#![tactic(auto)]
+
 ghost use Rattle.std.specs.Prelude.{◌≡◌, ◌^◌};
 ghost use Rattle.rules.specs.Fraction.{integer, whole, ◌/ℚ◌, nearest};
 ghost use Rattle.rules.specs.Matrix.{log_c3_matrix, log_c4_matrix, matrix_of, IsAces};

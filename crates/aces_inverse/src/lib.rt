@@ -1,4 +1,7 @@
 // From ACES numbers back to scene numbers: the inverse of the setting's matrix, rounded once.
+
+#![tactic(auto)]
+
 ghost use Rattle.std.specs.Prelude.{◌≡◌, ◌^◌};
 ghost use Rattle.rules.specs.Fraction.{integer, whole, ◌/ℚ◌, nearest};
 ghost use Rattle.rules.specs.Pixels.{triple};

@@ -1,4 +1,7 @@
 // ACES records: what is written for a pixel record, and for an ACES record on the way back, exact or tolerant.
+
+#![tactic(auto)]
+
 ghost use Rattle.std.specs.Prelude.{◌≡◌, length};
 ghost use Rattle.rules.specs.declared.Check.TheVariants.{Passed};
 ghost use Rattle.rules.specs.Setting.{code_check, ValidForAces};

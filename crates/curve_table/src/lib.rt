@@ -1,4 +1,7 @@
 // The tables of the curves.
+
+#![tactic(auto)]
+
 ghost use Rattle.std.specs.Prelude.{◌≡◌};
 ghost use Rattle.curve_table.specs.Table.{table_of, log_c2_table, log_c3_table, log_c4_table};
 

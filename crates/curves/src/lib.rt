@@ -1,4 +1,7 @@
 // The curves: which there are, and the one choice by a curve's number. The limits of each are constants of its type.
+
+#![tactic(auto)]
+
 ghost use Rattle.std.specs.Prelude.{◌≡◌, ◌^◌, ◌<◌};
 ghost use Rattle.rules.specs.Setting.{named, has_matrix};
 ghost use Rattle.curves.specs.Gap.{gap_of};

@@ -1,4 +1,7 @@
 // Decoding: the scene number of a code.
+
+#![tactic(auto)]
+
 ghost use Rattle.std.specs.Prelude.{◌≡◌, [], ◌∷◌};
 ghost use Rattle.rules.specs.Decoding.{DecodesCode};
 ghost use Rattle.rules.specs.Result.{Each, single};

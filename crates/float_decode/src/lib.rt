@@ -1,4 +1,7 @@
 // Float pixels, and decoding to them: a pixel's scene numbers as three f64.
+
+#![tactic(auto)]
+
 ghost use Rattle.std.specs.Prelude.{◌≡◌};
 ghost use Rattle.rules.specs.declared.Check.TheVariants.{Passed};
 ghost use Rattle.rules.specs.Refusal.{number_of};

@@ -1,4 +1,7 @@
 // One float and its units: a scene number as an f64, and an f64 to the nearest unit, read from its sign, exponent and fraction bits.
+
+#![tactic(auto)]
+
 ghost use Rattle.std.specs.Prelude.{◌≡◌, ◌^◌, ◌≤◌, ◌<◌, eqb, nat_abs};
 ghost use Rattle.std.specs.Float.{binary64};
 ghost use Rattle.std.specs.Float.Ieee.{of_fields};

@@ -1,4 +1,7 @@
 // The graded road of one record: the check of ACES numbers that a colourist changed, and a scene triple for them.
+
+#![tactic(auto)]
+
 ghost use Rattle.std.specs.Prelude.{◌≡◌};
 ghost use Rattle.rules.specs.declared.Check.TheVariants.{Passed};
 ghost use Rattle.rules.specs.Refusal.{then};

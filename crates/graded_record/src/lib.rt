@@ -1,4 +1,7 @@
 // Graded records: what is checked of an ACES record that a colourist changed, and what is written for one: a scene record, or a pixel record.
+
+#![tactic(auto)]
+
 ghost use Rattle.std.specs.Prelude.{◌≡◌, length};
 ghost use Rattle.rules.specs.declared.Check.TheVariants.{Passed};
 ghost use Rattle.rules.specs.Setting.{ValidForAces};

@@ -1,4 +1,7 @@
 // Half floats (IEEE 754 binary16): the check of one, its units, and the half nearest to an ACES number.
+
+#![tactic(auto)]
+
 ghost use Rattle.std.specs.Prelude.{◌≡◌, ◌≤◌, ◌<◌, ◌^◌};
 ghost use Rattle.rules.specs.Half.{exponent_of, size_units, half_units, half_check, half_end, behind_eleven, to_even, half_size, half_of};
 

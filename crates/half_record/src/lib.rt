@@ -1,4 +1,7 @@
 // Half records: the check of their halves, what is written for one, and what is written for an ACES record.
+
+#![tactic(auto)]
+
 ghost use Rattle.std.specs.Prelude.{◌≡◌, ◌+◌, ◌≤◌, length, take, drop};
 ghost use Rattle.rules.specs.Record.{value, number_bytes, half_bytes, numbers_size, halves_size};
 ghost use Rattle.rules.specs.Half.{half_check};

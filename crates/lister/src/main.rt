@@ -1,5 +1,8 @@
 // Lists pixel records. Standard input holds records of ten bytes. A line is printed for each: its index from 0, then `ok` and three ACES
 // numbers, or `refused` and the refusal's number. Bytes short of a record at the end print `tail` and their count.
+
+#![tactic(auto)]
+
 use libc::{STDIN_FILENO, STDOUT_FILENO};
 
 // A piece of the input: its records, its bytes, and the bytes of its longest text.

@@ -1,4 +1,7 @@
 // The lister's lines: a record's outcome, and the bytes short of a record, as text.
+
+#![tactic(auto)]
+
 ghost use Rattle.text.specs.Put.{Room, Put};
 ghost use Rattle.rules.specs.declared.Outcome.TheVariants.{Aces, Refused};
 ghost use Rattle.rules.specs.Lister.{line_of, words, line, tail_line};

@@ -1,4 +1,7 @@
 // Numbers in bytes, little endian: codes, and signed numbers.
+
+#![tactic(auto)]
+
 ghost use Rattle.std.specs.Prelude.{◌≡◌, ◌+◌, ◌≤◌, ◌<◌, length, take, drop};
 ghost use Rattle.rules.specs.Record.{value, digits, to_bits, of_bits, number_bytes};
 

@@ -1,4 +1,7 @@
 // The search for the step whose number is nearest to a number y, which has the offset: from a guess outwards, then by halves.
+
+#![tactic(auto)]
+
 ghost use Rattle.std.specs.Prelude.{◌≡◌, ◌^◌, ◌<◌, min};
 ghost use Rattle.rules.specs.Setting.{named};
 ghost use Rattle.curves.specs.Gap.{gap_of};

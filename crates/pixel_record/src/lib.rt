@@ -1,4 +1,7 @@
 // Pixel records: the checks of their codes, and what is written for one.
+
+#![tactic(auto)]
+
 ghost use Rattle.std.specs.Prelude.{◌≡◌, ◌+◌, ◌≤◌, length, take, drop};
 ghost use Rattle.rules.specs.declared.Check.TheVariants.{Passed};
 ghost use Rattle.rules.specs.Record.{value, code_bytes, number_bytes, pixel_size, numbers_size};

@@ -1,4 +1,7 @@
 // The conversions of one record: what each checks of its setting and of the record after it, and what it writes for it.
+
+#![tactic(auto)]
+
 ghost use Rattle.std.specs.Prelude.{◌≡◌, ◌<◌, length};
 ghost use Rattle.rules.specs.declared.Check.TheVariants.{Passed};
 ghost use Rattle.rules.specs.Record.{setting_of};

@@ -1,4 +1,7 @@
 // Records in their bytes: a setting and three channels, read and written.
+
+#![tactic(auto)]
+
 ghost use Rattle.std.specs.Prelude.{◌≡◌, [], ◌∷◌, ◌+◌, ◌*◌, ◌≤◌, length};
 ghost use Rattle.rules.specs.Record.{bytes_of, setting_of, record_of, pixel_in, pixel_record, numbers_record, triple_in, aces_record, setting_bytes, code_bytes, half_bytes, pixel_size, numbers_size, halves_size};
 ghost use Rattle.rules.specs.Strip.{record_at};

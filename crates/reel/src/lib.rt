@@ -1,5 +1,8 @@
 // A reel: up to 4,096 pixel records in a strip that is lent, kept with their count and the three sums of their scene numbers. A call costs the
 // same however many records there are, and says what it does whatever it is lent. (Any list of calls: crate reel_calls.)
+
+#![tactic(auto)]
+
 ghost use Rattle.std.specs.Prelude.{◌≡◌};
 ghost use Rattle.rules.specs.Reel as calls;
 ghost use Rattle.rules.specs.Reel.{Answers};

@@ -1,5 +1,8 @@
 // The calls on a reel over what C has: the strip, the count and the three sums. Each gives the number, and where it is 0 the count and the sums
 // after it. (The functions for C in `ropeinstant` lend these. C has the sums as signed numbers.)
+
+#![tactic(auto)]
+
 ghost use Rattle.std.specs.Prelude.{◌≡◌};
 ghost use Rattle.rules.specs.Reel as calls;
 ghost use Rattle.rules.specs.Reel.{reel_result};

@@ -1,4 +1,7 @@
 // A pixel record of a reel: its checks, and its scene numbers as they are added to the sums.
+
+#![tactic(auto)]
+
 ghost use Rattle.std.specs.Prelude.{◌≡◌, length};
 ghost use Rattle.rules.specs.declared.Check.TheVariants.{Passed};
 ghost use Rattle.rules.specs.Record.{pixel_size};

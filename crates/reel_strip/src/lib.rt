@@ -1,4 +1,7 @@
 // The strip of a reel: how many records it has room for, which are held, and the record at an index, read and written.
+
+#![tactic(auto)]
+
 ghost use Rattle.std.specs.Prelude.{◌≡◌, ◌<◌};
 ghost use Rattle.rules.specs.Record.{pixel_size};
 ghost use Rattle.rules.specs.Reel.{room_in, held, with_record, metered};

@@ -1,4 +1,7 @@
 // The sums of a reel: numbers taken off and added, whatever the sums were.
+
+#![tactic(auto)]
+
 ghost use Rattle.std.specs.Prelude.{◌≡◌};
 ghost use Rattle.rules.specs.Reel.{sum_after, totals_with};
 

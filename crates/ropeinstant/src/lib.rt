@@ -1,6 +1,9 @@
 // The conversions of strips and of float pixels for C, the calls on a reel, and the top code of a width. A function over strips lends them to a
 // conversion of `strip` and gives the answer as a number and a place; one over a float pixel gives the number, and writes where it is 0; one on
 // a reel lends what C keeps of it to `reel_for_c`. include/ropeinstant.h declares them.
+
+#![tactic(auto)]
+
 ghost use Rattle.std.specs.Prelude.{◌≡◌};
 ghost use Rattle.record_conversion.specs.Conversions.{pixel_to_scene, scene_to_pixel, pixel_to_aces, aces_to_pixel, aces_to_pixel_tolerant, graded_to_pixel, graded_to_scene};
 ghost use Rattle.rules.specs.Conversions.{aces_to_half, half_to_aces};

@@ -1,4 +1,7 @@
 // Row products: the three rows of a matrix of whole numbers times three numbers, exact.
+
+#![tactic(auto)]
+
 ghost use Rattle.std.specs.Prelude.{◌≡◌, ◌<◌};
 ghost use Rattle.rules.specs.Matrix.{row_product};
 ghost use Rattle.row_product.specs.Row.{Number, SmallRow, SmallRows, IsProducts, plain};

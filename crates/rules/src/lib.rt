@@ -1,5 +1,7 @@
 // The types that the rules speak of. The rules themselves are in specs/.
 
+#![tactic(auto)]
+
 // A record's first four bytes: curve, width in bits, and EI (two bytes, read as one number).
 #[derive(Drop)]
 pub struct Setting {

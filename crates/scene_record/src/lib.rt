@@ -1,4 +1,7 @@
 // Scene records: the checks of their numbers, and what is written for one.
+
+#![tactic(auto)]
+
 ghost use Rattle.std.specs.Prelude.{◌≡◌, ◌+◌, ◌≤◌, length, take, drop};
 ghost use Rattle.rules.specs.declared.Check.TheVariants.{Passed};
 ghost use Rattle.rules.specs.Record.{value, of_bits, code_bytes, number_bytes, pixel_size, numbers_size};

@@ -1,4 +1,7 @@
 // The checks of a setting, the check of a number between two ends, and the numbers of the refusals.
+
+#![tactic(auto)]
+
 ghost use Rattle.std.specs.Prelude.{◌≡◌, false, ◌<◌};
 ghost use Rattle.std.specs.Int.Signed.{le_z};
 ghost use Rattle.rules.specs.Choice.{choose};

@@ -1,4 +1,7 @@
 // The codes of a setting: the top code of a width, the steps of codes, and the checks of a code.
+
+#![tactic(auto)]
+
 ghost use Rattle.std.specs.Prelude.{◌≡◌, ◌^◌, ◌≤◌, ◌<◌};
 ghost use Rattle.rules.specs.declared.Check.TheVariants.{Passed};
 ghost use Rattle.rules.specs.Pixels.{each_code, codes_check};

@@ -1,5 +1,8 @@
 // Conversions of strips. A first pass checks every record, a second writes each: a refusal leaves the output as it was. The way back of a short
 // strip takes one pass, into a buffer.
+
+#![tactic(auto)]
+
 ghost use Rattle.std.specs.Prelude.{◌≡◌};
 ghost use Rattle.rules.specs.Conversions.{aces_to_half, half_to_aces};
 ghost use Rattle.rules.specs.Strip.{Converts};

@@ -1,4 +1,7 @@
 // The way back of a short strip, exact or tolerant, in one pass: the pixels that are found are kept in a buffer, and copied where no record is refused.
+
+#![tactic(auto)]
+
 ghost use Rattle.std.specs.Prelude.{◌≡◌, ◌*◌, ◌≤◌, length};
 ghost use Rattle.rules.specs.Record.{pixel_size, numbers_size};
 ghost use Rattle.rules.specs.Strip.{scan_of, output_after};

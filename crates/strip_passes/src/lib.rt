@@ -1,5 +1,8 @@
 // The two passes over a strip: the first checks every record, the second writes each. Both fetch the decoder and the table for a run of
 // records of one setting.
+
+#![tactic(auto)]
+
 ghost use Rattle.std.specs.Prelude.{◌≡◌, ◌*◌, ◌≤◌, length};
 ghost use Rattle.rules.specs.declared.Answer.TheVariants.{Done};
 ghost use Rattle.rules.specs.Setting.{Valid};

@@ -1,6 +1,9 @@
 // Decodes what it reads. Standard input holds records of six bytes, a setting and a code, as a pixel record begins. A line is printed for
 // each: the scene number in units of 2^-24, or `refused` and the refusal's number. Bytes short of a record at the end print `tail` and
 // their count.
+
+#![tactic(auto)]
+
 use decode::Decoding;
 use libc::{STDIN_FILENO, STDOUT_FILENO};
 use rules::{Code, Setting};

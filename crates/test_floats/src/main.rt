@@ -1,6 +1,9 @@
 // Decodes pixels to floats and encodes float pixels. Standard input holds records of 29 bytes: what is asked (0 decoding, else encoding), a
 // setting, and for each channel eight bytes, a code or the bits of a float. A line is printed for each: the bits of the three floats, or the three
 // codes, or `refused` and the refusal's number. Any bits of a float that is not a number stand for that one float.
+
+#![tactic(auto)]
+
 ghost use Rattle.std.specs.Prelude.{◌≤◌};
 
 use float_decode::{FloatDecoding, FloatPixel};

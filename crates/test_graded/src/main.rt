@@ -1,5 +1,8 @@
 // The graded road of one record, called for each ACES record of standard input. A line is printed for each: the three scene numbers, or `refused`
 // and the refusal's number. Bytes short of a record at the end are left.
+
+#![tactic(auto)]
+
 use graded::Graded;
 use libc::{STDIN_FILENO, STDOUT_FILENO};
 use records::NUMBERS_SIZE;

@@ -1,5 +1,8 @@
 // The third-stop table of ARRI's LogC4 paper (source document 002, appendix D): 0.18 times two to the stops, to the nearest unit, encoded
 // under curve 4, width 12. A line for each row: the stops in thirds, the scene number and its code.
+
+#![tactic(auto)]
+
 use encode::Encoding;
 use libc::STDOUT_FILENO;
 use rules::{Scene, Setting};

@@ -2,6 +2,9 @@
 // pixel, 4 ACES to half, 5 half to ACES, 6 graded to pixel, 7 graded to scene, 8 ACES to pixel, tolerant), the lengths of the input and of the
 // output strip, two bytes each, then the bytes of both. For each job a line says `done` and the count of records, or `refused`, the refusal's number and the record's
 // index; the output strip's bytes follow.
+
+#![tactic(auto)]
+
 use libc::{STDIN_FILENO, STDOUT_FILENO};
 use rules::Answer;
 

@@ -1,5 +1,8 @@
 // The ways back of one record, called for each ACES record of standard input. A line is printed for each: what the exact one gives, ` | `, and what
 // the tolerant one gives, each the three codes of a pixel, or `refused` and the refusal's number. Bytes short of a record at the end are left.
+
+#![tactic(auto)]
+
 use libc::{STDIN_FILENO, STDOUT_FILENO};
 use records::NUMBERS_SIZE;
 use rules::{Distance, Pixel};

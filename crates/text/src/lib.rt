@@ -1,4 +1,7 @@
 // Text in a buffer: bytes, words and decimal numbers, put one behind the other.
+
+#![tactic(auto)]
+
 ghost use Rattle.std.specs.Prelude.{[], ◌∷◌};
 ghost use Rattle.text.specs.Put.{Room, Put};
 ghost use Rattle.rules.specs.Decimal.{decimal, signed};

@@ -1,4 +1,7 @@
 // The way back from three ACES numbers to the pixel: the exact one, and the tolerant one of numbers that another package moved.
+
+#![tactic(auto)]
+
 ghost use Rattle.std.specs.Prelude.{◌≡◌, ◌≤◌, nat_abs};
 ghost use Rattle.rules.specs.Choice.{all_three};
 ghost use Rattle.rules.specs.Result.{single};

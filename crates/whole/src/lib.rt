@@ -1,5 +1,8 @@
 // Whole numbers: the upper half of a product of two words, a number without its sign, its part above
 // or below 0, and a quotient rounded down. (proofs/ has the laws of ℤ that the other crates cite.)
+
+#![tactic(auto)]
+
 ghost use Rattle.std.specs.Prelude.{◌≡◌, ◌*◌, ◌/◌, ◌^◌, ◌≤◌, nat_abs};
 ghost use Rattle.std.specs.Int.Signed.{shr_z};
 ghost use Rattle.whole.specs.Parts.{up, dn};
