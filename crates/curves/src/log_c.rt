@@ -6,7 +6,7 @@ ghost use Rattle.rules.specs.declared.CurveName as named;
 ghost use Rattle.rules.specs.Setting.{eis_of};
 ghost use Rattle.curves.specs.LogC.{row_of};
 
-#[derive(Drop)]
+#[derive(Clone, Copy)]
 pub struct LogC {
     pub a: u64,
     pub cut: u64,

@@ -9,7 +9,7 @@ ghost use Rattle.curves.specs.LogC.{constants_of};
 use super::lists;
 use super::log_c::LogC;
 
-#[derive(Drop)]
+#[derive(Clone, Copy)]
 pub struct LogC3;
 
 impl LogC3 {

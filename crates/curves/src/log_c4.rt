@@ -9,7 +9,7 @@ use super::lists;
 
 // Of a signal t the exact value is (2^P - less) * times / over, where
 // P = begin + stops * (white * t - black) / range.
-#[derive(Drop)]
+#[derive(Clone, Copy)]
 pub struct LogC4 {
     pub begin: u64,
     pub stops: u64,

@@ -31,7 +31,7 @@ const MILLION: u64 = 1_000_000;
 
 // first: the first step of the power part. bias: what is added to a product of table entries before it is rounded.
 // toe and over: in the toe, what is added, and what is divided by.
-#[derive(Drop)]
+#[derive(Clone, Copy)]
 pub struct Decoder {
     pub first: u64,
     pub bias: u64,

@@ -15,7 +15,7 @@ use decoder::Decoder;
 use rules::{Check, Code, Refusal, Scene, Setting};
 
 // What decoding one code answers.
-#[derive(Drop)]
+#[derive(Clone, Copy)]
 pub enum Decoding {
     Scene(Scene),
     Refused(Refusal),

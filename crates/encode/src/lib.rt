@@ -22,7 +22,7 @@ const LIMIT: i64 = 1 << 40;
 const OFFSET: i64 = 1 << 20;
 
 // What encoding one scene number answers.
-#[derive(Drop)]
+#[derive(Clone, Copy)]
 pub enum Encoding {
     Code(Code),
     Refused(Refusal),

@@ -17,7 +17,7 @@ use decode::decoder::Decoder;
 use rules::{Check, Code, Pixel, Refusal, Setting};
 
 // A float pixel: its three channels.
-#[derive(Drop)]
+#[derive(Clone, Copy)]
 pub struct FloatPixel {
     pub red: f64,
     pub green: f64,
@@ -25,7 +25,7 @@ pub struct FloatPixel {
 }
 
 // What decoding one pixel to floats answers: the float pixel, or the refusal number of the cause (`setting::refusal_number`).
-#[derive(Drop)]
+#[derive(Clone, Copy)]
 pub enum FloatDecoding {
     Pixel(FloatPixel),
     Refused(u8),

@@ -18,7 +18,7 @@ use float_unit::Reading;
 use rules::{Check, Pixel, Refusal, Scene, Setting};
 
 // What encoding one float pixel answers: the pixel, or the refusal number of the cause (`setting::refusal_number`).
-#[derive(Drop)]
+#[derive(Clone, Copy)]
 pub enum FloatEncoding {
     Pixel(Pixel),
     Refused(u8),

@@ -11,7 +11,7 @@ ghost use Rattle.float_unit.specs.Reading.{unit_count, read_answer};
 use rules::{Refusal, Scene};
 
 // What reading one float answers.
-#[derive(Drop)]
+#[derive(Clone, Copy)]
 pub enum Reading {
     Scene(Scene),
     Refused(Refusal),

@@ -18,7 +18,7 @@ use setting::first_refusal;
 const LIMIT: i64 = 1 << 38;
 
 // What the graded road of one record answers.
-#[derive(Drop)]
+#[derive(Clone, Copy)]
 pub enum Graded {
     Scenes(Scenes),
     Refused(Refusal),

@@ -9,7 +9,7 @@ use rules::Setting;
 
 // Above the toe a step's number, less the decoder's bias, is a number z over 2^27, and the signal is slope * log2(z) - start. The slope is
 // in units of 2^-32, the start in units of 2^-48.
-#[derive(Drop)]
+#[derive(Clone, Copy)]
 pub struct LogLine {
     pub slope: u64,
     pub start: u64,

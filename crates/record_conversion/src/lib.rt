@@ -14,7 +14,7 @@ use records::{HALVES_SIZE, NUMBERS_SIZE, PIXEL_SIZE};
 use rules::{Check, Distance, Refusal, Setting};
 
 // Which conversion. (The order is for speed: docs/DECISIONS.md.)
-#[derive(Drop)]
+#[derive(Clone, Copy)]
 pub enum Kind {
     PixelToAces,
     AcesToPixel(Distance),

@@ -7,7 +7,7 @@ ghost use Rattle.rules.specs.Matrix.{row_product};
 ghost use Rattle.row_product.specs.Row.{Number, SmallRow, SmallRows, IsProducts, plain};
 
 // A number for each channel.
-#[derive(Drop)]
+#[derive(Clone, Copy)]
 pub struct Numbers {
     pub red: i64,
     pub green: i64,

@@ -3,7 +3,7 @@
 #![tactic(auto)]
 
 // A record's first four bytes: curve, width in bits, and EI (two bytes, read as one number).
-#[derive(Drop)]
+#[derive(Clone, Copy)]
 pub struct Setting {
     pub curve: u8,
     pub width: u8,
@@ -11,7 +11,7 @@ pub struct Setting {
 }
 
 // The curve that a setting names.
-#[derive(Drop)]
+#[derive(Clone, Copy)]
 pub enum CurveName {
     LogC2,
     LogC3,
@@ -20,27 +20,27 @@ pub enum CurveName {
 }
 
 // A code as the camera wrote it.
-#[derive(Drop)]
+#[derive(Clone, Copy)]
 pub struct Code(pub u16);
 
 // A step: the place of a code among the codes of its setting, from 0.
-#[derive(Drop)]
+#[derive(Clone, Copy)]
 pub struct Step(pub u64);
 
 // A scene number, in units of 2^-24. Of curve 2 it is a sensor value.
-#[derive(Drop)]
+#[derive(Clone, Copy)]
 pub struct Scene(pub i64);
 
 // An ACES number, in units of 2^-24.
-#[derive(Drop)]
+#[derive(Clone, Copy)]
 pub struct Aces(pub i64);
 
 // A half float, its 16 bits.
-#[derive(Drop)]
+#[derive(Clone, Copy)]
 pub struct Half(pub u16);
 
 // A pixel: its three codes.
-#[derive(Drop)]
+#[derive(Clone, Copy)]
 pub struct Pixel {
     pub red: Code,
     pub green: Code,
@@ -48,7 +48,7 @@ pub struct Pixel {
 }
 
 // Three ACES numbers.
-#[derive(Drop)]
+#[derive(Clone, Copy)]
 pub struct Triple {
     pub red: Aces,
     pub green: Aces,
@@ -56,7 +56,7 @@ pub struct Triple {
 }
 
 // Three scene numbers.
-#[derive(Drop)]
+#[derive(Clone, Copy)]
 pub struct Scenes {
     pub red: Scene,
     pub green: Scene,
@@ -64,28 +64,28 @@ pub struct Scenes {
 }
 
 // How far the numbers of a record may be from those of the pixel that a way back finds: not at all, or as far as the tolerant one allows.
-#[derive(Drop)]
+#[derive(Clone, Copy)]
 pub enum Distance {
     Exact,
     Tolerant,
 }
 
 // What the way back finds.
-#[derive(Drop)]
+#[derive(Clone, Copy)]
 pub enum Found {
     Pixel(Pixel),
     Nothing,
 }
 
 // What becomes of a record that the lister reads: three ACES numbers, or the refusal.
-#[derive(Drop)]
+#[derive(Clone, Copy)]
 pub enum Outcome {
     Aces(Triple),
     Refused(Refusal),
 }
 
 // Why a conversion refuses: the rows of the table "Refused, by the place of the check".
-#[derive(Drop)]
+#[derive(Clone, Copy)]
 pub enum Refusal {
     PartialRecord,
     ShortOutput,
@@ -106,21 +106,21 @@ pub enum Refusal {
 }
 
 // What a check answers.
-#[derive(Drop)]
+#[derive(Clone, Copy)]
 pub enum Check {
     Passed,
     Refused(Refusal),
 }
 
 // What a conversion of a strip answers: the count of records, or the refusal with the record's index.
-#[derive(Drop)]
+#[derive(Clone, Copy)]
 pub enum Answer {
     Done(usize),
     Refused(Refusal, usize),
 }
 
 // What is kept of a reel beside its records: how many it holds, and the sum of their scene numbers in each channel, a signed number by its 64 bits.
-#[derive(Drop)]
+#[derive(Clone, Copy)]
 pub struct Totals {
     pub count: u64,
     pub red: u64,
@@ -129,7 +129,7 @@ pub struct Totals {
 }
 
 // What a call on a reel answers: what is then kept, or the refusal.
-#[derive(Drop)]
+#[derive(Clone, Copy)]
 pub enum ReelAnswer {
     Done(Totals),
     Refused(Refusal),

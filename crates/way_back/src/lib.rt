@@ -24,7 +24,7 @@ const REACH: i64 = 1 << 38;
 const TOLERATED: u8 = 5;
 
 // What the way back over one record answers.
-#[derive(Drop)]
+#[derive(Clone, Copy)]
 pub enum Back {
     Pixel(Pixel),
     Refused(Refusal),
