@@ -34,6 +34,7 @@ impl LogC {
 
     // The row of an EI in a table of constants, from 0, and their count where it has none. The one
     // list of the EIs: what else there is for an EI is found by its row.
+    #[tactic(auto, unfolding(crate::specs::LogC::row_of))]
     pub fn row(ei: u16) -> usize
         ensures { result ≡ row_of ei }
     {
