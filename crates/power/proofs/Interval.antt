@@ -1,12 +1,9 @@
 -- Fractions below and above b ^ (m / q): products of them, and a power of one computed with rounding.
 -- Assumes nothing.
-use mathlib.Core.Path.{◌≡◌, refl, sym, ap, ap₂, ◌∙◌, subst, subst₂}
+use mathlib.Core.Path.{◌≡◌, sym, ap, ap₂, ◌∙◌}
 use mathlib.Core.Logic.{◌≢◌}
-use mathlib.Core.List.{List, [], ◌∷◌}
-use Prim.Native.Nat.{ℕ, zero, suc, ◌+◌, ◌-◌, ◌*◌, ◌/◌, ◌^◌, ◌≤◌, ◌<◌}
-use native.Mathlib.Nat.{lt_of_mul-lt-mul_right, lt_of_le_of_lt, lt_of_lt_of_le, pow-lt-pow_left, pow-le-pow_right, lt_of_not-le, not-le_of_lt, le_of_suc-le-suc, le_refl, le_trans, le_of_eq, le_of_lt, mul_assoc, mul_comm, mul_left_comm, mul-one, one-mul, mul-mul-mul_comm, mul-le-mul, mul-le-mul_left, mul-le-mul_right, le_of_mul-le-mul_right, one-le-pow, mul-pos, pow-zero, pow-suc, pow-le-pow_left, div-mul-le_self, lt-mul-div-succ}
-use native.Mathlib.Omega.{arith}
-use lib.Dec.{T, leb, eqb, leb→le, eqb→eq}
+use Prim.Native.Nat.{ℕ, zero, ◌+◌, ◌*◌, ◌^◌, ◌≤◌, ◌<◌}
+use native.Mathlib.Nat.{lt_of_mul-lt-mul_right, lt_of_le_of_lt, lt_of_lt_of_le, pow-lt-pow_left, pow-le-pow_right, lt_of_not-le, not-le_of_lt, le_of_suc-le-suc, le_trans, le_of_eq, mul_assoc, mul_comm, mul_left_comm, one-mul, mul-le-mul, mul-le-mul_right, le_of_mul-le-mul_right, one-le-pow, pow-zero, pow-le-pow_left}
 use lib.Pow.{pow-add}
 use Rattle.whole.proofs.Powers.{mul_pow, pow_mul}
 use Rattle.power.specs.Power.{Below, below, Above, above}

@@ -3,7 +3,7 @@
 use mathlib.Core.Path.{◌≡◌, sym, ap, ◌∙◌, subst}
 use mathlib.Core.Bool.{Bool, true}
 use mathlib.Core.List.{List, [], ◌∷◌}
-use Prim.Native.Nat.{ℕ, zero, suc, ◌+◌, ◌-◌, ◌*◌, ◌/◌, ◌^◌, ◌≤◌, ◌<◌}
+use Prim.Native.Nat.{ℕ, zero, suc, ◌+◌, ◌*◌, ◌/◌, ◌^◌, ◌≤◌, ◌<◌}
 use native.Mathlib.Nat.{le_trans, le_of_eq, le_of_lt, mul_assoc, mul_comm, mul_left_comm, mul-le-mul_right, mul-le-mul_left, mul-pos, div-mul-le_self, lt-mul-div-succ, zero-mul, add-zero, suc-mul, mul-one, not-suc-le-zero, le_of_suc-le-suc, pow-zero, pow-suc, add_assoc, add_comm, two-mul, add-mul, mul-add, one-mul, lt-div-mul-add}
 use native.Mathlib.Numerals.{add-one}
 use native.Mathlib.Omega.{arith}
@@ -44,7 +44,7 @@ double m n = ap (λ (w : ℕ). w * 2 ^ n) (sym (two-mul m)) ∙ ap (λ (w : ℕ)
 
 pub in_squares : {b q m lo hi s : ℕ} → zero < s → (n : ℕ) → In b q m lo hi s → In b q (m * 2 ^ n) (square_down s n lo) (square_up s n hi) s
 in_squares {m = m} p zero f = in_at (m * 2 ^ 0) (sym (ap (λ (w : ℕ). m * w) (pow-zero 2) ∙ mul-one m)) f
-in_squares {m = m} p (suc n) f = in_at (m * 2 ^ suc n) (double m n) (in_squares p n (in_mul p f f))
+in_squares {m = m} p (suc n) f = in_at (m * 2 ^ suc n) (double m n) (in_squares {m = m + m} p n (in_mul p f f))
 
 -- ---- the test
 
