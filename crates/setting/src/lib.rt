@@ -54,6 +54,7 @@ fn check_limits(width: bool, ei: bool) -> Check
 }
 
 // Refusals 3, 4 and 5.
+#[tactic(auto, unfolding(rules::specs::Setting::setting_check))]
 pub fn check_setting(s: Setting) -> Check
     ensures { result ≡ setting_check s }
 {
@@ -98,6 +99,7 @@ pub fn first_refusal(first: Check, second: Check) -> Check
 }
 
 // Refusals 3, 4 and 5, then 12: the checks of a setting in a conversion to or from ACES.
+#[tactic(auto, unfolding(rules::specs::Setting::aces_check))]
 pub fn check_for_aces(s: Setting) -> Check
     ensures { result ≡ aces_check s }
 {
