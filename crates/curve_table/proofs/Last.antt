@@ -10,7 +10,7 @@ use Rattle.curves.proofs.Rows.{NoneOf, at_least}
 use Rattle.curve_table.specs.Seeds.{Seed}
 use Rattle.curve_table.specs.Table.{no_table, table_in}
 
-beyond : (last row : ℕ) (rs : List Row) (ss : List Seed) → length rs ≤ row → no_table ≡ table_in last row rs ss
+pub beyond : (last row : ℕ) (rs : List Row) (ss : List Seed) → length rs ≤ row → no_table ≡ table_in last row rs ss
 beyond last row [] ss h = refl
 beyond last row (r ∷ rs) [] h = refl
 beyond last zero (r ∷ rs) (s ∷ ss) h = absurd (omega arith)
