@@ -41,6 +41,7 @@ pub fn top_code(width: u8) -> Code
 }
 
 // Whether a setting is of curve 4 at a width.
+#[tactic(auto, unfolding(crate::specs::LogC4::is_log_c4))]
 fn is_log_c4(s: Setting, width: u8) -> bool
     ensures { result ≡ is_log_c4 s width }
 {
