@@ -3,7 +3,10 @@
 
 #![tactic(auto)]
 
-use libc::{STDIN_FILENO, STDOUT_FILENO};
+// The standard streams.
+const STDIN_FILENO: i32 = 0;
+
+const STDOUT_FILENO: i32 = 1;
 
 // A piece of the input: its records, its bytes, and the bytes of its longest text.
 const RECORDS: u64 = 6553;

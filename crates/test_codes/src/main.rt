@@ -5,8 +5,12 @@
 #![tactic(auto)]
 
 use decode::Decoding;
-use libc::{STDIN_FILENO, STDOUT_FILENO};
 use rules::{Code, Setting};
+
+// The standard streams.
+const STDIN_FILENO: i32 = 0;
+
+const STDOUT_FILENO: i32 = 1;
 
 fn print_number(z: i64) {
     if z < 0 {

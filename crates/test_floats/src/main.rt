@@ -8,8 +8,12 @@ ghost use Rattle.std.specs.Prelude.{◌≤◌};
 
 use float_decode::{FloatDecoding, FloatPixel};
 use float_encode::FloatEncoding;
-use libc::{STDIN_FILENO, STDOUT_FILENO};
 use rules::{Code, Pixel, Setting};
+
+// The standard streams.
+const STDIN_FILENO: i32 = 0;
+
+const STDOUT_FILENO: i32 = 1;
 
 fn print_refusal(number: u8) {
     io::write_all(STDOUT_FILENO, b"refused ");

@@ -4,9 +4,13 @@
 #![tactic(auto)]
 
 use graded::Graded;
-use libc::{STDIN_FILENO, STDOUT_FILENO};
 use records::NUMBERS_SIZE;
 use rules::{Scene, Scenes};
+
+// The standard streams.
+const STDIN_FILENO: i32 = 0;
+
+const STDOUT_FILENO: i32 = 1;
 
 fn print_number(x: Scene) {
     let number = x.0;

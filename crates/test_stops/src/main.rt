@@ -4,8 +4,10 @@
 #![tactic(auto)]
 
 use encode::Encoding;
-use libc::STDOUT_FILENO;
 use rules::{Scene, Setting};
+
+// The standard streams.
+const STDOUT_FILENO: i32 = 1;
 
 // 0.18 * 2^24 * 2^(i / 3) to the nearest unit, i from -19 to 34
 fn scenes() -> [i64; 54] {

@@ -3,10 +3,14 @@
 
 #![tactic(auto)]
 
-use libc::{STDIN_FILENO, STDOUT_FILENO};
 use records::NUMBERS_SIZE;
 use rules::{Distance, Pixel};
 use way_back::Back;
+
+// The standard streams.
+const STDIN_FILENO: i32 = 0;
+
+const STDOUT_FILENO: i32 = 1;
 
 fn print_codes(p: Pixel) {
     io::print_decimal(STDOUT_FILENO, p.red.0 as u64);
