@@ -40,6 +40,8 @@ subnormal s t = subst (λ (n : ℕ). HasValue (odd 53 s t 0 1074) s n (2 ^ 1074)
 -- "a float is read from its sign, exponent and fraction bits": in the words of the rules
 value_is : (x : Float) (s : Bool) (n d : ℕ) → HasValue x s n d → Versus (λ m n. m ≡ n) (value_of x) (signed s n d)
 unfolding value_of
+value_is nan s n d h = elim h [ ]
+value_is (inf t) s n d h = elim h [ ]
 value_is (fin t m e) s n d h = subst (λ (b : Bool). Versus (λ m n. m ≡ n) (signed b (m * up e) (down e)) (signed s n d)) (sym h.0) (cross s (m * up e) (down e) h.1)
   where
     cross : (s : Bool) (a c : ℕ) → a * d ≡ n * c → Versus (λ m n. m ≡ n) (signed s a c) (signed s n d)

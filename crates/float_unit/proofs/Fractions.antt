@@ -8,7 +8,7 @@ use native.Mathlib.Omega.{arith}
 use borrow.Author.Tests.{le-leb, lt-leb}
 use lib.Dec.{T, leb, leb→le, le→leb}
 use lib.IntN.{ℤ, pos, ◌-ℤ◌}
-use lib.Ieee.{Float, fin, up, down}
+use lib.Ieee.{Float, nan, inf, fin, up, down}
 use lib.Ieee.Fits.{down_pos}
 use lib.Ieee.Exact.{HasValue}
 use Rattle.whole.proofs.Reflect.{at, sub, dif}
@@ -87,6 +87,8 @@ read_same s n d n' d' p p' e =
 
 pub read_at_lem : (x : Float) (s : Bool) (n d : ℕ) → 0 < d → HasValue x s n d → read_answer x ≡ read_at s n d
 unfolding read_answer float_check units_of value_of
+read_at_lem nan s n d p v = elim v [ ]
+read_at_lem (inf t) s n d p v = elim v [ ]
 read_at_lem (fin t m e) s n d p v = read_same t (m * up e) (down e) n d (down_pos e) p v.1 ∙ ap (λ (b : Bool). read_at b n d) v.0
 
 -- ---- what `read_at` is

@@ -29,6 +29,10 @@ cross a b c d p n k h e f =
     eq_of_mul-eq-mul_right k h (a * p * d) (c * p * b) (omega (arith, ap (λ (i : ℕ). i * (p * d)) e, ap (λ (i : ℕ). i * (p * b)) f))
 
 same_bits : (x y : Float) (s : Bool) (n k : ℕ) → 0 < k → HasValue x s n k → HasValue y s n k → to_bits binary64 x ≡ to_bits binary64 y
+same_bits nan y s n k h v w = elim v [ ]
+same_bits (inf t) y s n k h v w = elim v [ ]
+same_bits (fin t m e) nan s n k h v w = elim w [ ]
+same_bits (fin t m e) (inf u) s n k h v w = elim w [ ]
 same_bits (fin t m e) (fin u l g) s n k h v w =
     bits_are t m e
     ∙ ap (λ (b : Bool). bits_of b (m * up e * 2 ^ 1074 / down e)) (v.0 ∙ sym w.0)

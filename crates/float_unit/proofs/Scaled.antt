@@ -8,7 +8,7 @@ use native.Mathlib.Omega.{arith}
 use lib.Dec.{T, le→leb, lt→ltb, lit<, lit≤}
 use lib.IntN.{ℤ, pos, negsuc, nat_abs}
 use lib.Pow.{shl_lt}
-use lib.Ieee.{Float, fin, binary64, up, down, round, div, of_int, in_float}
+use lib.Ieee.{Float, nan, inf, fin, binary64, up, down, round, div, of_int, in_float}
 use lib.Ieee.Fits.{down_pos}
 use lib.Ieee.Exact.{HasValue, round_exact}
 use lib.Ieee.Back.{round_whole}
@@ -31,6 +31,8 @@ cast_value (negsuc n) h = round_whole binary64 true (suc n) h
 
 divided : (x : Float) (s : Bool) (n : ℕ) → HasValue x s n 1 → div binary64 x (fin false 1 (pos 24)) ≡ round binary64 s n 16777216
 unfolding div
+divided nan s n v = elim v [ ]
+divided (inf t) s n v = elim v [ ]
 divided (fin true m e) s n v =
     round_same binary64 true (m * up e * 1) (16777216 * down e) n 16777216 (mul-pos (lit< tt) (down_pos e)) (lit< tt) (omega (arith, v.1))
     ∙ ap (λ (t : Bool). round binary64 t n 16777216) v.0
@@ -53,10 +55,14 @@ signs_differ : {A : Type 0} → true ≡ false → A
 signs_differ e = absurd (subst T e tt)
 
 finite_is : (x : Float) (s : Bool) (n d : ℕ) → HasValue x s n d → finite x ≡ true
+finite_is nan t n d h = elim h [ ]
+finite_is (inf s) t n d h = elim h [ ]
 finite_is (fin s m e) t n d h = refl
 
 exact_is : (x : Float) (v : ℤ) → HasValue x (negative v) (nat_abs v) 16777216 → Versus (λ m n. m ≡ n) (value_of x) (integer v /ℚ whole 16777216)
 unfolding value_of
+exact_is nan v h = elim h [ ]
+exact_is (inf s) v h = elim h [ ]
 exact_is (fin false m e) (pos n) h = omega (arith, h.1)
 exact_is (fin true m e) (pos n) h = signs_differ h.0
 exact_is (fin false m e) (negsuc n) h = signs_differ (sym h.0)
