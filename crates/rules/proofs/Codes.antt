@@ -7,7 +7,7 @@ use Prim.Native.Nat.{ℕ, ◌+◌, ◌-◌, ◌*◌, ◌/◌, ◌%◌, ◌^◌, 
 use native.Mathlib.Nat.{lt_of_le_of_lt, add-sub_cancel_left, add-sub_of_le, mul-div_cancel, div-mul_cancel, div-le_of_le-mul, dvd-sub, dvd_of_mod-eq-zero, add-mul-mod_self_right, mul_comm, mul-le-mul_right, mul-lt-mul_of_pos_right, lt_of_mul-lt-mul_right, le-mul_of_pos_right}
 use native.Mathlib.Omega.{arith}
 use borrow.Author.Tests.{eq-eqb, le-leb}
-use lib.Dec.{T, eqb, leb, eqb→eq, leb→le, lit<}
+use lib.Dec.{eqb, leb, eqb→eq, leb→le, lit<}
 use Rattle.rules.specs.declared.Setting.{Setting}
 use Rattle.rules.specs.declared.CurveName.{CurveName}
 use Rattle.rules.specs.declared.CurveName.TheVariants.{LogC2, LogC3, LogC4, Unknown}

@@ -6,15 +6,15 @@ use mathlib.Core.List.{List, [], ◌∷◌, ◌++◌, append-nil, append_assoc}
 use Prim.Native.Nat.{ℕ, zero, suc, ◌+◌, ◌-◌, ◌*◌, ◌/◌, ◌%◌, ◌^◌, ◌≤◌, ◌<◌}
 use native.Mathlib.Nat.{pow-zero, pow-suc, div-lt_iff_lt-mul}
 use native.Mathlib.Omega.{arith}
-use borrow.Author.Tests.{lt-ltb, le-ltb, ltb-true, ltb-false}
+use borrow.Author.Tests.{lt-ltb, le-ltb}
 use lib.Dec.{ltb, lit<}
 use lib.IntN.{ℤ, pos, negsuc}
-use lib.ListN.{length, get_or, take, drop, length-append, length-take, length-drop, take-append-drop}
-use lib.Seq.{take_at, drop_at, drop-drop, take_all, get_or-drop, get_or-take, length-take-le}
+use lib.ListN.{length, get_or, take, drop, length-append, length-drop, take-append-drop}
+use lib.Seq.{take_at, drop_at, drop-drop, get_or-drop, length-take-le}
 use Rattle.whole.specs.Parts.{up, dn}
 use Rattle.rules.specs.declared.Setting.{Setting}
 use Rattle.rules.specs.Choice.{choose}
-use Rattle.rules.specs.Record.{IsBytes, value, digits, to_bits, of_bits, fields, bytes_of, layout, size_of, setting_of, Channels, channel_at, channels_of, record_of}
+use Rattle.rules.specs.Record.{IsBytes, value, digits, to_bits, of_bits, fields, bytes_of, layout, size_of, setting_of, Channels, channels_of, record_of}
 
 -- ---- numbers in bytes
 pub length_digits : (n x : ℕ) → length (digits n x) ≡ n

@@ -1,9 +1,9 @@
 -- A comparison with a power depends on the values of the fractions alone, and not on how they are written.
 -- Assumes nothing.
-use mathlib.Core.Path.{◌≡◌, sym, ap, ap₂, ◌∙◌, subst, subst₂}
+use mathlib.Core.Path.{◌≡◌, sym, ap, ap₂, ◌∙◌, subst₂}
 use mathlib.Core.Logic.{◌≢◌}
 use Prim.Native.Nat.{ℕ, zero, ◌+◌, ◌-◌, ◌*◌, ◌^◌, ◌≤◌, ◌<◌}
-use native.Mathlib.Nat.{le_of_eq, le_antisymm, lt_of_not-le, not-le_of_lt, le_of_suc-le-suc, ne_of_gt, mul_assoc, mul_comm, mul_left_comm, mul-sub, mul-one, mul-pos, pow-zero, one-le-pow, mul-le-mul_right, le_of_mul-le-mul_right, mul-lt-mul_of_pos_right, lt_of_mul-lt-mul_right, pow-le-pow_left, pow-lt-pow_left}
+use native.Mathlib.Nat.{le_of_eq, le_antisymm, lt_of_not-le, not-le_of_lt, le_of_suc-le-suc, ne_of_gt, mul_comm, mul-sub, mul-one, mul-pos, pow-zero, one-le-pow, mul-le-mul_right, le_of_mul-le-mul_right, mul-lt-mul_of_pos_right, lt_of_mul-lt-mul_right, pow-le-pow_left, pow-lt-pow_left}
 use native.Mathlib.Omega.{arith}
 use lib.Dec.{T, leb→le, le→leb, lit<}
 use lib.Pow.{pow-add}

@@ -1,6 +1,6 @@
 -- 01, "Curve 4" and "Curve 3", and 02, item 3: the formulas, with their exact decimals.
 -- Assumes nothing.
-use Rattle.std.specs.Prelude.{Bool, true, false, List, [], ◌∷◌, ℕ, eqb, ℤ, pos}
+use Rattle.std.specs.Prelude.{Bool, false, List, [], ◌∷◌, ℕ, eqb, ℤ, pos}
 use Rattle.whole.specs.Parts.{minus}
 use Rattle.rules.specs.Choice.{choose}
 use Rattle.rules.specs.Fraction.{Fraction, ratio, whole, millionths, signed_millionths, ◌+ℚ◌, ◌-ℚ◌, ◌*ℚ◌, ◌/ℚ◌, at_most}

@@ -2,7 +2,7 @@
 -- Assumes nothing.
 use Rattle.std.specs.Prelude.{Bool, true, false, ℕ}
 use Rattle.rules.specs.declared.Setting.{Setting}
-use Rattle.rules.specs.Fraction.{Fraction, whole, ◌+ℚ◌, ◌-ℚ◌, ◌*ℚ◌, ◌/ℚ◌, Versus, VersusPower}
+use Rattle.rules.specs.Fraction.{Fraction, whole, ◌+ℚ◌, ◌/ℚ◌, Versus, VersusPower}
 use Rattle.rules.specs.Curve.{Curve, base, exponent, less, factor, in_toe, toe_value}
 use Rattle.rules.specs.Setting.{curve_of, last_of}
 

@@ -5,7 +5,6 @@ use native.Mathlib.Omega.{arith}
 use lib.Dec.{lit<}
 use lib.IntN.{ℤ, pos, ◌+ℤ◌}
 use lib.Signed.{shr_z}
-use Rattle.whole.specs.Parts.{up, dn}
 use Rattle.whole.proofs.Reflect.{at, add, mul, eq_n}
 use Rattle.whole.proofs.Floor.{mod_z, mod_z-lt, floor_mod}
 use Rattle.whole.proofs.Near.{Near}
