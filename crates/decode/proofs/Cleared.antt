@@ -5,7 +5,7 @@ use Prim.Native.Nat.{ℕ, ◌+◌, ◌*◌}
 use native.Mathlib.Omega.{arith}
 use Rattle.whole.proofs.Tidy.{tidy}
 use Rattle.rules.specs.Fraction.{Fraction, ratio, Versus}
-use Rattle.rules.specs.Curve.{Curve, log_c4, log_c, Constants, exponent}
+use Rattle.rules.specs.Curve.{Curve, log_c4, log_c, exponent}
 use Rattle.rules.specs.Exact.{Scale, signal}
 
 -- of a signal t the exponent is (rise * t + above - below) / den

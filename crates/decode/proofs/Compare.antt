@@ -14,7 +14,7 @@ use Rattle.rules.specs.Exact.{Scale, signal, power_for}
 use Rattle.rules.proofs.Values.{Ordered, same_value}
 use Rattle.curve_table.specs.Table.{lift}
 use Rattle.decode.proofs.Cleared.{den, below, exponent_at, exponent_is}
-use Rattle.decode.proofs.Tests.{Source, Tested, b, q, times, kappa, plus_less, minus_less}
+use Rattle.decode.proofs.Tests.{Source, Tested, b, times, kappa, plus_less, minus_less}
 
 -- ---- an exponent that was lifted to be positive
 lifted_by : (c m g G X : ℕ) → g ≤ G * m → (X * c ^ G) ^ m ≡ X ^ m * c ^ g * c ^ (G * m - g)

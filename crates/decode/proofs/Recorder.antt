@@ -1,14 +1,14 @@
 -- 02, item 5: A CODE OF CURVE 4 AT WIDTH 16 and the 12-bit code that it is 16 times have one decoded number.
 -- Assumes nothing.
 use mathlib.Core.List.{List, [], ◌∷◌}
-use mathlib.Core.Path.{◌≡◌, refl, sym, ap, ap₂, ◌∙◌}
+use mathlib.Core.Path.{◌≡◌, refl, ap, ap₂, ◌∙◌}
 use Prim.Native.Nat.{ℕ, ◌*◌, ◌/◌}
 use native.Mathlib.Nat.{mul-div_cancel_left}
 use lib.Dec.{lit<}
 use lib.IntN.{ℤ}
 use Rattle.rules.specs.declared.Check.{Check}
 use Rattle.rules.specs.Refusal.{then}
-use Rattle.rules.specs.Result.{Result, single}
+use Rattle.rules.specs.Result.{single}
 use Rattle.rules.specs.Setting.{step_of}
 use Rattle.rules.specs.Exact.{Scale}
 use Rattle.rules.proofs.Recorder.{sixteen_bits, twelve_bits, same_setting_check, same_scale, over_sixteen, check_times_sixteen}

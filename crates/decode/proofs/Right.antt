@@ -1,22 +1,21 @@
 -- Of a scale whose tests are passed: the decoded numbers are what the rules ask, and they are apart.
 -- Assumes nothing.
-use mathlib.Core.Path.{◌≡◌, refl, sym, ap, ◌∙◌, subst}
+use mathlib.Core.Path.{◌≡◌, refl, sym, ap, subst}
 use mathlib.Core.Bool.{Bool, true, false, not}
 use mathlib.Core.List.{List}
-use Prim.Native.Nat.{ℕ, zero, suc, ◌+◌, ◌-◌, ◌*◌, ◌/◌, ◌^◌, ◌≤◌, ◌<◌}
-use native.Mathlib.Nat.{le_of_suc-le-suc, le_of_lt, lt_trans, mul-le-mul_right, le_of_mul-le-mul_right, lt_of_mul-lt-mul_right, div-mul-le_self, lt-div-mul-add, add-sub_of_le}
+use Prim.Native.Nat.{ℕ, ◌+◌, ◌-◌, ◌*◌, ◌/◌, ◌^◌, ◌≤◌, ◌<◌}
+use native.Mathlib.Nat.{le_of_suc-le-suc, le_of_lt, mul-le-mul_right, le_of_mul-le-mul_right, lt_of_mul-lt-mul_right, div-mul-le_self, lt-div-mul-add, add-sub_of_le}
 use native.Mathlib.Omega.{arith}
 use borrow.Author.Tests.{ltb-true, ltb-false, lt-ltb, le-ltb}
-use lib.Dec.{T, ltb, ltb→lt, leb→le, lit<}
-use lib.IntN.{ℤ, sub_ℕ}
-use Rattle.rules.specs.Choice.{choose}
+use lib.Dec.{T, ltb, lit<}
+use lib.IntN.{sub_ℕ}
 use Rattle.rules.specs.Fraction.{ratio, whole}
 use Rattle.rules.specs.Curve.{Curve, log_c4, log_c, Constants, in_toe}
 use Rattle.rules.specs.Exact.{Scale, signal, VersusPart}
 use Rattle.rules.specs.Decoding.{DecodesPart, DecodesWithin}
 use Rattle.curve_table.specs.Table.{fine}
 use Rattle.decode.specs.declared.decoder.Decoder.{Decoder}
-use Rattle.decode.specs.Decoded.{offset, product, toe_raw, power_raw, raw_by, decoder_of, first_of, toe_of, over_of}
+use Rattle.decode.specs.Decoded.{offset, product, toe_raw, power_raw, raw_by, decoder_of, toe_of}
 use Rattle.decode.proofs.Tests.{Source, Tested, first, bias}
 use Rattle.decode.proofs.Law.{no_less, next_low}
 use Rattle.decode.proofs.Near.{Room, below_exact, above_exact}

@@ -5,7 +5,7 @@ use mathlib.Core.Path.{◌≡◌, subst}
 use Prim.Native.Nat.{ℕ, zero, suc, ◌+◌, ◌-◌, ◌*◌, ◌≤◌, ◌<◌}
 use native.Mathlib.Omega.{arith}
 use lib.Dec.{ltb, ltb→lt, lit<}
-use lib.IntN.{ℤ, sub_ℕ}
+use lib.IntN.{sub_ℕ}
 use lib.Signed.{◌<ℤ◌}
 use Rattle.whole.proofs.Reflect.{at, lt_z-of, sub_dif}
 use Rattle.rules.specs.declared.Setting.{Setting}

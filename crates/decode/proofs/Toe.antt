@@ -1,17 +1,17 @@
 -- The toe of a curve: which steps are in it, and that the decoded number there is the exact value to the nearest unit.
 -- Assumes nothing.
-use mathlib.Core.Path.{◌≡◌, sym, ap, ◌∙◌}
-use mathlib.Core.Bool.{Bool, true, false, not}
-use Prim.Native.Nat.{ℕ, ◌+◌, ◌-◌, ◌*◌, ◌/◌, ◌^◌, ◌≤◌, ◌<◌}
+use mathlib.Core.Path.{◌≡◌, sym}
+use mathlib.Core.Bool.{not}
+use Prim.Native.Nat.{ℕ, ◌+◌, ◌*◌, ◌^◌, ◌≤◌, ◌<◌}
 use native.Mathlib.Nat.{mul-le-mul_right, not-le_of_lt, div-mul-le_self, lt-div-mul-add}
 use native.Mathlib.Omega.{arith}
 use lib.Dec.{T, not_T}
-use lib.IntN.{ℤ, sub_ℕ}
+use lib.IntN.{sub_ℕ}
 use Rattle.whole.specs.Parts.{up, dn}
 use Rattle.whole.proofs.Reflect.{sub_dif}
 use Rattle.whole.proofs.Tidy.{tidy}
 use Rattle.rules.specs.Fraction.{Fraction, whole, ◌*ℚ◌, nearest}
-use Rattle.rules.specs.Curve.{Curve, log_c, Constants, border, in_toe, toe_value}
+use Rattle.rules.specs.Curve.{log_c, Constants, border, in_toe, toe_value}
 use Rattle.rules.specs.Exact.{Scale, signal}
 use Rattle.rules.proofs.Values.{test_passed, pass_test}
 use Rattle.rules.proofs.Nearest.{nearest_is}
