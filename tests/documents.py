@@ -34,6 +34,7 @@ ALLOWED = {
     "rt": "the toolchain's command", "rt ci": "the toolchain's command",
     "rt check lister": "the toolchain's command", "axioms=": "a word of the toolchain's reports",
     "axioms=2": "a word of the toolchain's reports", "N passed, 0 failed": "the toolchain's last line",
+    "libc::read": "a function of the toolchain's", "libc::write": "a function of the toolchain's",
     "cp": "a program of the system", "perf record": "a program of the system",
     "nan": "a value of the logic's floats",
     "-": "standard input, on the command line",
@@ -90,6 +91,8 @@ class Sources:
         self.declared, self.functions, self.code, self.theorems = {}, [], {}, []
         for path in sorted((ROOT / "crates").rglob("*")):
             name, crate = str(path.relative_to(ROOT)), path.relative_to(ROOT).parts[1]
+            if "out" in path.relative_to(ROOT).parts:
+                continue  # what checks keep
             if path.suffix == ".rt":
                 self.code[name] = re.sub("//.*", "", path.read_text())
                 self.declared[name], functions = coded(crate, name, self.code[name])
@@ -386,8 +389,8 @@ def figures(sources, texts):
     gives are those of the widths in bits; and README.md has the count of settings"""
     curves = [curve("log_c2"), curve("log_c3"), curve("log_c4")]
     record = (ROOT / "crates/rules/specs/Record.antt").read_text()
-    code, number, half = (4 + 3 * int(re.search(rf"(?m)^{name} = (\d+)", record)[1]) for name in ("codeBytes", "numberBytes", "halfBytes"))
-    refused = re.findall(r"(?m)^numberOf \w+ = (\d+)", (ROOT / "crates/rules/specs/Refusal.antt").read_text())
+    code, number, half = (4 + 3 * int(re.search(rf"(?m)^{name} = (\d+)", record)[1]) for name in ("code_bytes", "number_bytes", "half_bytes"))
+    refused = re.findall(r"(?m)^number_of \w+ = (\d+)", (ROOT / "crates/rules/specs/Refusal.antt").read_text())
     entries, inverse = ([line.split(", ") for line in re.findall(r"\[(-?\d+, -?\d+, -?\d+)\]", (ROOT / f"crates/{crate}/src/entries.rt").read_text())]
                         for crate in ("aces", "aces_inverse"))
     wanted = {
@@ -453,8 +456,8 @@ def distances(sources, texts):
 
 def reels(sources, texts):
     """how many records a reel holds at most, and their bytes, are said as the rules have it"""
-    most = int(re.search(r"(?m)^reelMost = (\d+)$", (ROOT / "crates/rules/specs/Reel.antt").read_text())[1])
-    code = int(re.search(r"(?m)^codeBytes = (\d+)", (ROOT / "crates/rules/specs/Record.antt").read_text())[1])
+    most = int(re.search(r"(?m)^reel_most = (\d+)$", (ROOT / "crates/rules/specs/Reel.antt").read_text())[1])
+    code = int(re.search(r"(?m)^code_bytes = (\d+)", (ROOT / "crates/rules/specs/Record.antt").read_text())[1])
     header = f"#define ROPEINSTANT_REEL_RECORDS {most}\n#define ROPEINSTANT_REEL_BYTES {most * (4 + 3 * code)}\n"
     places = {"include/ropeinstant.h": (sources.installed, header), "tool/src/totals.rs": (sources.tool, f"\nconst MOST: usize = {most};\n")}
     places.update((d, (" ".join(texts[d].split()), f"reel of up to {most:,} " if d == README else f"at most {most:,}")) for d in (README, FORMAT, COMMAND))

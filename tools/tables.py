@@ -146,8 +146,7 @@ def written():
     antt = (
         "-- The numbers that the tables are computed from. Written by tools/tables.py.\n"
         "-- Assumes nothing.\n"
-        "use mathlib.Core.List.{List, [], _∷_}\n"
-        "use Prim.Native.Nat.{ℕ}\n"
+        "use Rattle.std.specs.Prelude.{List, [], ◌∷◌, ℕ}\n"
         "\n"
         "-- a value for a number\n"
         "pub record At (A : Type 0) : Type 0 where\n  pub number : ℕ\n  pub value : A\n"
@@ -163,12 +162,12 @@ def written():
         "abbrev pub seed : (front first : ℕ) → List (At ℕ) → Seed\n"
         "seed front first ratios = record { front = front; first = first; ratios = ratios }\n"
         "\n"
-        "abbrev pub logC4Seed : Seed\n"
-        f"logC4Seed = {seeds[4][0]}\n"
+        "abbrev pub log_c4_seed : Seed\n"
+        f"log_c4_seed = {seeds[4][0]}\n"
         "\n"
         "-- a curve with a toe: one for each row of its constants\n"
         + "\n".join(
-            f"abbrev pub logC{number}Seeds : List Seed\nlogC{number}Seeds =\n    " + "\n    ∷ ".join(seeds[number]) + "\n    ∷ []\n"
+            f"abbrev pub log_c{number}_seeds : List Seed\nlog_c{number}_seeds =\n    " + "\n    ∷ ".join(seeds[number]) + "\n    ∷ []\n"
             for number in (2, 3)
         )
     )
@@ -190,7 +189,7 @@ def by_row(number, names):
     return (
         f"    // The line of a row of curve {number}'s constants.\n"
         f"    fn log_c{number}(row: usize) -> LogLine\n"
-        "        ensures { λ k. ⌜ k .slope < 2 ^ 29 ⌝ }\n"
+        "        ensures { result.slope < 2 ^ 29 }\n"
         "    {\n"
         "        match row {\n"
         f"{arms}"
@@ -208,7 +207,8 @@ def lines():
         names[c.number].append(c.name)
     return (
         "// The lines of the guess, one for each curve, and for each EI of a curve with a toe. Written by tools/tables.py.\n"
-        "ghost use Prim.Native.Nat.{_^_, _<_};\n"
+        "ghost use Rattle.std.specs.Prelude.{◌^◌, ◌<◌};\n"
+        "\n"
         "use curves::log_c::LogC;\n"
         "use curves::log_c2::LogC2;\n"
         "use curves::log_c3::LogC3;\n"
@@ -217,6 +217,7 @@ def lines():
         "\n"
         "// Above the toe a step's number, less the decoder's bias, is a number z over 2^27, and the signal is slope * log2(z) - start. The slope is\n"
         "// in units of 2^-32, the start in units of 2^-48.\n"
+        "#[derive(Clone, Copy)]\n"
         "pub struct LogLine {\n    pub slope: u64,\n    pub start: u64,\n}\n"
         "\n"
         "impl LogLine {\n"
@@ -228,7 +229,7 @@ def lines():
         "    // The line of a setting. (It goes by the curve's number: to name the curve first took 4 % of the\n"
         "    // way back's time.)\n"
         "    pub fn of(s: Setting) -> LogLine\n"
-        "        ensures { λ k. ⌜ k .slope < 2 ^ 29 ⌝ }\n"
+        "        ensures { result.slope < 2 ^ 29 }\n"
         "    {\n"
         "        let curve = s.curve;\n"
         "        match curve {\n"
