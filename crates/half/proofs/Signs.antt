@@ -7,7 +7,6 @@ use native.Mathlib.Nat.{le_trans, le_of_eq, mod-lt}
 use native.Mathlib.Omega.{arith}
 use lib.Dec.{lit<, lit≤}
 use lib.IntN.{ℤ, pos, negsuc, nat_abs, ◌-ℤ◌}
-use Rattle.whole.specs.Parts.{minus}
 use Rattle.whole.proofs.Apart.{apart, abs_apart, minus_is}
 use Rattle.whole.proofs.Reflect.{at, sub}
 use Rattle.rules.specs.Half.{sign_of, exponent_of, fraction_of, IsFinite, size_units, signed_units, half_units, minus_zero, half_distance, IsNearestHalf, half_size, half_of}

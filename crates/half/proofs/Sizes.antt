@@ -1,13 +1,12 @@
 -- The units of a half without its sign rise strictly with its bits; and those of k digits cut off: exponent and digits joined.
 -- Assumes nothing.
 use mathlib.Core.Path.{◌≡◌, refl, sym, ap, ◌∙◌, subst}
-use mathlib.Core.Bool.{Bool, true, false, not}
 use mathlib.Core.Logic.{◌⊎◌, inl, inr}
 use Prim.Native.Nat.{ℕ, zero, suc, ◌+◌, ◌-◌, ◌*◌, ◌/◌, ◌%◌, ◌^◌, ◌≤◌, ◌<◌}
 use native.Mathlib.Nat.{le_of_eq, le_of_lt, lt_trans, lt_of_lt_of_le, lt_of_le_of_lt, lt_irrefl, eq-or-lt_of_le, le_of_suc-le-suc, mul-lt-mul_of_pos_right, mul-le-mul, mod-lt, div-add-mod', pow-succ'}
 use native.Mathlib.Omega.{arith}
 use lib.Arith.{digits_div, digits_mod}
-use lib.Dec.{T, ltb, ltb→lt, nltb→le, lit<}
+use lib.Dec.{lit<}
 use lib.Pow.{pow_pos, pow_mono}
 use Rattle.whole.proofs.Apart.{less_or_not, three_ways}
 use Rattle.rules.specs.Half.{size_units, half_end, joined}
