@@ -1,5 +1,5 @@
 #!/usr/bin/env python3
-"""decoded.py PROGRAM: have PROGRAM (target/bin/test_codes) decode every code of every setting, and settings and codes that must be
+"""decoded.py PROGRAM: have PROGRAM (crates/test_codes/out/test_codes) decode every code of every setting, and settings and codes that must be
 refused, and hold each answer to the curves as 01 and, for curve 2, source document 001 print them, computed with 150 digits (powers) and
 fractions (the toe): each number is the nearest whole number of units. Nothing of the project's code or tables is used."""
 import subprocess, sys, time

@@ -32,7 +32,7 @@ ALLOWED = {
     "requires": "a word of the language", "ensures": "a word of the language",
     "&mut u64": "a type of the language",
     "rt": "the toolchain's command", "rt ci": "the toolchain's command",
-    "rt check lister": "the toolchain's command", "axioms=": "a word of the toolchain's reports",
+    "axioms=": "a word of the toolchain's reports",
     "axioms=2": "a word of the toolchain's reports", "N passed, 0 failed": "the toolchain's last line",
     "libc::read": "a function of the toolchain's", "libc::write": "a function of the toolchain's",
     "cp": "a program of the system", "perf record": "a program of the system",
@@ -237,7 +237,7 @@ class Reader:
     def path(self, name):
         """a path from the repository, its crates, the crate before it, or the path before it; a word in
         capitals stands for any name"""
-        if "target" in name.split("/"):
+        if {"target", "out"} & {*name.split("/")}:
             return None if name in self.sources.gate else self.complain(name, "is not built by ./gate")
         folders = [ROOT, ROOT / "crates"] + ([ROOT / "crates" / self.crate] if self.crate else [])
         folders += [self.folder, *self.folder.parents] if self.folder else []

@@ -1,5 +1,5 @@
 #!/usr/bin/env python3
-"""floats.py PROGRAM [SEED]: have PROGRAM (target/bin/test_floats) decode every code of every setting to floats, encode these floats again, and encode
+"""floats.py PROGRAM [SEED]: have PROGRAM (crates/test_floats/out/test_floats) decode every code of every setting to floats, encode these floats again, and encode
 other floats: random bits, halves of a unit where the code changes, subnormals, both zeros, the ends of the range, infinities, and floats that are not
 numbers. Each answer is held to Python's exact fractions and to the rules of 01 (rules.py)."""
 import random, subprocess, sys, time

@@ -1,5 +1,5 @@
 #!/usr/bin/env python3
-"""graded.py PROGRAM DRIVER [SEED]: 02, item 7. Have PROGRAM (target/bin/test_graded) give the scene numbers of graded ACES records, each by a
+"""graded.py PROGRAM DRIVER [SEED]: 02, item 7. Have PROGRAM (crates/test_graded/out/test_graded) give the scene numbers of graded ACES records, each by a
 call of its own, and DRIVER (tests/driver.c, linked with the library) convert strips of the same to scene numbers and to codes. Tried are for
 each setting with a matrix all corners of the limits, random triples of every size, and triples of pixels, some with channels moved. The ACES
 numbers of an answer are within two units of those given, and the most that any of them is off is one. Encoding takes every answer. The answers

@@ -1,5 +1,5 @@
 #!/usr/bin/env python3
-"""lister.py PROGRAM [SEED]: have PROGRAM (target/bin/lister) list pixel records, valid, refused and random, with tails and without, fewer
+"""lister.py PROGRAM [SEED]: have PROGRAM (crates/lister/out/lister) list pixel records, valid, refused and random, with tails and without, fewer
 and more than its buffer holds, piped in odd pieces; hold every byte that it prints to the rules of 01 (rules.py)."""
 import random, subprocess, sys, threading, time
 

@@ -1,5 +1,5 @@
 #!/usr/bin/env python3
-"""stops.py PROGRAM: hold what PROGRAM (target/bin/test_stops) prints to the third-stop table of source document 002, appendix D: the scene
+"""stops.py PROGRAM: hold what PROGRAM (crates/test_stops/out/test_stops) prints to the third-stop table of source document 002, appendix D: the scene
 numbers are 0.18 times two to the stops, to the nearest unit (2^-24), and the codes are those of the 12-bit full column, save the row at
 -2 stops, where 742 is printed and 741 is right (the exact curve stands at 741.495)."""
 import subprocess, sys

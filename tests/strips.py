@@ -1,5 +1,5 @@
 #!/usr/bin/env python3
-"""strips.py PROGRAM [SEED]: have PROGRAM (target/bin/test_strips) convert strips, whole, short and damaged, and hold each answer and every byte
+"""strips.py PROGRAM [SEED]: have PROGRAM (crates/test_strips/out/test_strips) convert strips, whole, short and damaged, and hold each answer and every byte
 of each output strip to the rules of 01 and 02 (rules.py)."""
 import random, subprocess, sys, time
 

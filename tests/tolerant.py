@@ -1,5 +1,5 @@
 #!/usr/bin/env python3
-"""tolerant.py PROGRAM DRIVER [SEED]: 02, item 8. Have PROGRAM (target/bin/test_way_back) take moved ACES records back, each by a call of its own, and
+"""tolerant.py PROGRAM DRIVER [SEED]: 02, item 8. Have PROGRAM (crates/test_way_back/out/test_way_back) take moved ACES records back, each by a call of its own, and
 DRIVER (tests/driver.c, linked with the library) strips of the same. Tried are for each setting with a matrix pixels at the ends, about the border of
 the toe, greys and random ones. Moved by five units or less in every channel each comes back as its pixel; moved by six or more in one it comes back
 or is refused as the rules say (rules.py), which try every pixel that can be as near. So it is with numbers at the ends of 8 bytes, with those that a

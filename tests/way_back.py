@@ -1,5 +1,5 @@
 #!/usr/bin/env python3
-"""way_back.py PROGRAM [SEED]: have PROGRAM (target/bin/test_way_back) take ACES records back one by one, each by a call of its own, exactly and
+"""way_back.py PROGRAM [SEED]: have PROGRAM (crates/test_way_back/out/test_way_back) take ACES records back one by one, each by a call of its own, exactly and
 tolerantly: those of random pixels of all settings with a matrix, the same with a channel some units off, random numbers of every size, settings
 without a matrix, and settings that are not valid; hold each answer to the rules of 01 and 02 (rules.py), which search the pixels for one that gives
 the numbers, or numbers near them."""
