@@ -59,7 +59,7 @@ fn of_bits(u: u64) -> i64
 }
 
 pub fn to_bits(z: i64) -> u64
-    ensures { result ≡ to_bits 8 z }
+    ensures { result ≡ to_bits number_bytes z }
 {
     if z < 0 {
         18446744073709551615 - (-1 - z) as u64
