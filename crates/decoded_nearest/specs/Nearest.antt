@@ -1,7 +1,7 @@
 -- A number that is the nearest whole number to the exact value in units: what the rules ask in the toe (a half going up), and more than they
 -- ask in the power part, where the number is strictly nearer than a half.
 -- Assumes nothing.
-use Rattle.std.specs.Prelude.{◌≡◌, ℕ, suc, ℤ}
+use Rattle.std.specs.Prelude.{◌≡◌, ℕ, ℤ}
 use Rattle.rules.specs.declared.Setting.{Setting}
 use Rattle.rules.specs.declared.Check.TheVariants.{Passed}
 use Rattle.rules.specs.Setting.{step_of, code_check, Valid}
