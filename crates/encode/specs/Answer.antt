@@ -1,6 +1,6 @@
 -- What encoding one scene number gives.
 -- Assumes nothing.
-use Rattle.std.specs.Prelude.{[], ◌∷◌, ℕ, suc, ℤ}
+use Rattle.std.specs.Prelude.{[], ◌∷◌, ℕ, ℤ}
 use Rattle.rules.specs.declared.Setting.{Setting}
 use Rattle.rules.specs.Refusal.{number_of}
 use Rattle.rules.specs.Result.{Result, done, refused_by}
