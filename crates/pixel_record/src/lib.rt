@@ -15,6 +15,7 @@ use records::{BLUE_CODE, GREEN_CODE, SETTING_BYTES};
 use rules::{Check, Code, Scene, Setting};
 
 // The checks of the three codes of a record.
+#[tactic(auto, unfolding(rules::specs::Conversions::channel_checks))]
 pub fn check_codes(s: Setting, r: &[u8]) -> Check
     requires valid { Valid s }
     requires r_len { length r.now ≡ pixel_size }
