@@ -1,6 +1,6 @@
 -- Text put into a buffer: the room for it, and what a function that puts it has done.
 -- Assumes nothing.
-use Rattle.std.specs.Prelude.{List, [], ◌∷◌, ◌++◌, ◌≡◌, ℕ, ◌+◌, ◌≤◌, length, take, drop}
+use Rattle.std.specs.Prelude.{List, ◌++◌, ◌≡◌, ℕ, ◌+◌, ◌≤◌, length, take, drop}
 
 -- there is room for the text from `at` on
 pub record Room (text buffer : List ℕ) (at : ℕ) : Type 0 where
