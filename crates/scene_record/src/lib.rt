@@ -30,6 +30,7 @@ fn check_at(s: Setting, r: &[u8], at: usize) -> Check
 }
 
 // The checks of the three numbers of a record.
+#[tactic(auto, unfolding(rules::specs::Conversions::channel_checks))]
 pub fn check_numbers(s: Setting, r: &[u8]) -> Check
     requires { length r.now ≡ numbers_size }
     ensures { result ≡ channel_checks number_bytes (number_check s) r.now }
