@@ -1,0 +1,16 @@
+-- `put_line` meets its contract: the index, then the words of the record.
+use Rattle.rules.specs.Decimal.{decimal}
+use Rattle.rules.specs.Lister.{followed}
+use Rattle.text.proofs.Putting.{put_both}
+use Rattle.lister_line.proofs.Parts.{line_parts}
+use Rattle.lister_line.proofs.put_line.Goals as goal
+
+pub returns-in-Aces : goal.returns-in-Aces
+returns-in-Aces c =
+    rw (line_parts, c.in-Aces.is)
+    (put_both (followed (decimal c.args.index) 32) _ (rw (line_parts, c.in-Aces.is) at c.requires) c.put_number-then.ensures c.put_ok.ensures)
+
+pub returns-in-Refused : goal.returns-in-Refused
+returns-in-Refused c =
+    rw (line_parts, c.in-Refused.is)
+    (put_both (followed (decimal c.args.index) 32) _ (rw (line_parts, c.in-Refused.is) at c.requires) c.put_number-then.ensures c.put_refused.ensures)
