@@ -43,5 +43,5 @@ pub fn put_record(strip: &mut [u8], index: u64, r: &[u8; PIXEL_SIZE])
     ensures { strip.new ≡ with_record strip.old index r.now }
 {
     let at = index as usize * PIXEL_SIZE;
-    bytes::copy(r, &mut strip[at..at + PIXEL_SIZE]);
+    strip[at..at + PIXEL_SIZE].copy_from_slice(r);
 }
