@@ -1,5 +1,5 @@
 -- Two to the low bits that are 0 is the distance of codes, and no bit is shifted out.
-use Rattle.std.proofs.Common.{◌≡◌, ℕ, ◌+◌, ◌*◌, ◌%◌, ◌^◌, ◌≤◌, ◌<◌, ap, ap₂, sym, subst, ◌∙◌}
+use Rattle.std.proofs.Common.{arith, ◌≡◌, ℕ, ◌+◌, ◌*◌, ◌%◌, ◌^◌, ◌≤◌, ◌<◌, ap, ap₂, sym, subst, ◌∙◌}
 use Rattle.std.proofs.Math.Nat.{mod-eq_of_lt, lt_of_le_of_lt, le-add_left}
 use Rattle.rules.specs.declared.Setting.{Setting}
 use Rattle.rules.specs.Setting.{codes_of, last_of}
@@ -11,7 +11,7 @@ shifted s i p h e =
     ap (λ (a : ℕ). i * a % 65536) e ∙ mod-eq_of_lt (lt_of_le_of_lt (le-add_left (i * (codes_of s).apart) (codes_of s).first) (code_small s i h))
 
 pub overflow_cast-step : goal.overflow_cast-step
-overflow_cast-step c = record { fits = lt_of_le_of_lt c.requires.i_bound (last_small c.args.s) }
+overflow_cast-step c = record { fits = omega (arith, c.requires.i_bound, last_small c.args.s) }
 
 pub returns : goal.returns
 returns c =
