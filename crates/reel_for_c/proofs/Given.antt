@@ -10,7 +10,7 @@ use Rattle.rules.specs.declared.ReelAnswer.{ReelAnswer}
 use Rattle.rules.specs.declared.Totals.{Totals}
 use Rattle.rules.specs.Reel.{Call, replace, reel_of, reel_check, reel_result, answer_to, reel_answer, totals_after_call, Answers}
 use Rattle.decode.specs.Decoded.{decoded}
-use Rattle.reel_for_c.specs.Call.{totals, count_after, sums_after, answer_for, GivesReel}
+use Rattle.reel_for_c.specs.Call.{totals, count_after, sums_after, GivesReel}
 
 -- the words of C hold what the answer gives them
 pub gives : (strip : List ℕ) (n : ℕ) (sums : List ℕ) (c : Call) (a : ReelAnswer) {t : Totals} {after sums' : List ℕ} {number count : ℕ}
