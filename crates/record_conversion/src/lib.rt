@@ -74,6 +74,7 @@ pub fn check_setting(k: Kind, s: Setting) -> Check
 }
 
 // The checks of a record after its setting's.
+#[tactic(auto, unfolding(rules::specs::Conversions::channel_checks))]
 pub fn check_inner(k: Kind, s: Setting, d: Decoder, t: &[u64; 128], r: &[u8]) -> Check
     requires ready { Ready s d t.now }
     requires s_value { (s ≡ setting_of r.now) × (length r.now ≡ (conversion_of k).from) × ((conversion_of k).setting s ≡ Passed) }
