@@ -43,21 +43,12 @@ module _ (l m h : ℤ) (sl : Sum l) (sm : Sum m) (sh : Sum h) where
     carry_is : read_back a ≡ carry
     carry_is = read_back_lem (record { sfits = fa }) ∙ (rw (read_back_lem (sum_fits l sl)) at ea)
 
-    first_fits : FitsSigned w64 (read_back m +ℤ read_back a)
-    first_fits = rw (read_back_lem (sum_fits m sm), carry_is) first
-
     first_is : read_back (read_back m +ℤ read_back a) ≡ m +ℤ carry
     first_is = rw (read_back_lem (sum_fits m sm), carry_is) (read_back_lem first)
-
-    first_small : nat_abs (read_back (read_back m +ℤ read_back a)) ≤ 2 * 10 ^ 18
-    first_small = rw first_is (omega (arith, more_small m carry sm carry_small))
 
     module _ {b : ℤ} (fb : mag b < 9223372036854775808) (eb : b ≡ over (read_back (read_back m +ℤ read_back a))) where
       second_is : read_back b ≡ second
       second_is = read_back_lem (record { sfits = fb }) ∙ (rw first_is at eb)
-
-      upper_fits : FitsSigned w64 (read_back h +ℤ read_back b)
-      upper_fits = rw (read_back_lem (sum_fits h sh), second_is) upper
 
       halved_fits : FitsSigned w64 (read_back (read_back h +ℤ read_back b) +ℤ pos 500000)
       halved_fits = rw (read_back_lem (sum_fits h sh), second_is, read_back_lem upper) halved
