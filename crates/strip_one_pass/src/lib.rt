@@ -66,7 +66,8 @@ pub fn aces_to_pixel(k: Distance, input: &[u8], n: usize, output: &mut [u8]) -> 
     let mut buffer = [0u8; BUFFER];
     let a = fill(k, input, n, &mut buffer);
     if let Answer::Done(m) = a {
-        bytes::copy(&buffer[0..m * PIXEL_SIZE], output);
+        let end = m * PIXEL_SIZE;
+        output[0..end].copy_from_slice(&buffer[0..end]);
     }
     a
 }
