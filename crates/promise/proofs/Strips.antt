@@ -1,21 +1,21 @@
 -- Strips: where a record is written, an accepted pixel strip is converted whole, and its ACES strip.
 -- Assumes nothing.
-use mathlib.Core.Path.{◌≡◌, refl, ap, ap₂, sym, ◌∙◌, subst}
-use mathlib.Core.List.{List, [], ◌∷◌, ◌++◌, append_assoc, append-nil}
-use Prim.Native.Nat.{ℕ, zero, suc, ◌+◌, ◌-◌, ◌*◌, ◌/◌, ◌≤◌, ◌<◌}
-use native.Mathlib.Nat.{mul-le-mul_right, mul-div_cancel, suc-mul, le_of_eq, zero-add}
+use mathlib.Core.Path.{◌≡◌, refl, ap, ap₂, sym, ◌∙◌}
+use mathlib.Core.List.{List, [], ◌++◌, append_assoc, append-nil}
+use Prim.Native.Nat.{ℕ, zero, suc, ◌*◌, ◌/◌, ◌≤◌, ◌<◌}
+use native.Mathlib.Nat.{mul-div_cancel, le_of_eq, zero-add}
 use native.Mathlib.Omega.{arith}
 use lib.Dec.{lit<}
-use lib.ListN.{length, take, drop, length-drop}
-use lib.Seq.{take_at, drop_at, length-take-le}
+use lib.ListN.{length, take, drop}
+use lib.Seq.{take_at, drop_at}
 use Rattle.rules.specs.declared.Answer.TheVariants.{Done}
 use Rattle.rules.specs.declared.Check.{Check}
 use Rattle.rules.specs.declared.Check.TheVariants.{Passed}
 use Rattle.rules.specs.declared.Setting.{Setting}
 use Rattle.rules.specs.Refusal.{then}
 use Rattle.rules.specs.Setting.{aces_check, code_check}
-use Rattle.rules.specs.Record.{IsBytes, setting_of, channel_at, pixel_size, numbers_size, code_bytes, number_bytes}
-use Rattle.rules.specs.Strip.{Conversion, record_check, records, record_at, written, scan_of}
+use Rattle.rules.specs.Record.{IsBytes, setting_of, pixel_size, numbers_size, code_bytes, number_bytes}
+use Rattle.rules.specs.Strip.{record_check, records, record_at, written}
 use Rattle.rules.proofs.Records.{take_bytes, drop_bytes, length_record}
 use Rattle.record_conversion.specs.Conversions.{pixel_to_aces}
 use Rattle.record_conversion.proofs.Good.{Good}

@@ -2,7 +2,7 @@
 -- ValidForAces, a pixel of it IsPixel: 02, item 3: "the promise about equal ACES strips covers curves 3 and 4 .. there a setting of curve 2 isn't
 -- valid".
 -- Assumes nothing.
-use Rattle.std.specs.Prelude.{List, ◌≡◌, ℕ, suc, ◌*◌, ◌/◌, ◌<◌, ℤ, length}
+use Rattle.std.specs.Prelude.{List, ◌≡◌, ℕ, ◌*◌, ◌/◌, ◌<◌, ℤ, length}
 use Rattle.rules.specs.declared.Check.TheVariants.{Refused}
 use Rattle.rules.specs.declared.Pixel.{Pixel}
 use Rattle.rules.specs.declared.Refusal.TheVariants.{NoPixel}
