@@ -2,7 +2,6 @@
 -- Assumes nothing.
 use mathlib.Core.List.{List}
 use mathlib.Core.Path.{◌≡◌, ap}
-use Prim.Native.Nat.{ℕ}
 use Rattle.rules.specs.Result.{Result}
 use Rattle.ropeinstant.specs.Floats.{written, GivesValues}
 
