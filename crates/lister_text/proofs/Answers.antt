@@ -14,7 +14,7 @@ use Rattle.text.specs.Put.{Room, Put}
 use Rattle.text.proofs.Putting.{room_next, put_both}
 use Rattle.lister_line.specs.Line.{longest, longest_tail}
 use Rattle.lister_line.proofs.Lengths.{tail_long}
-use Rattle.lister_text.specs.Listed.{lines, enough, listed, text_for, Lists}
+use Rattle.lister_text.specs.Listed.{lines, enough, text_for, Lists}
 use Rattle.lister_text.proofs.Lengths.{lines_long}
 use Rattle.rules.specs.Lister.{size, tail_line, listed_by}
 

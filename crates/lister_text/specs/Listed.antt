@@ -1,6 +1,6 @@
 -- What the lister's function writes: all that the rules say it prints, where there is room.
 -- Assumes nothing.
-use Rattle.std.specs.Prelude.{Bool, false, List, [], ◌∷◌, ◌++◌, ◌≡◌, ℕ, suc, ◌+◌, ◌*◌, ◌/◌, ◌%◌, ◌^◌, leb, ltb, length, drop}
+use Rattle.std.specs.Prelude.{Bool, false, List, [], ◌++◌, ◌≡◌, ℕ, ◌+◌, ◌*◌, ◌/◌, ◌^◌, leb, ltb, length, drop}
 use Rattle.rules.specs.Choice.{choose}
 use Rattle.rules.specs.declared.Outcome.{Outcome}
 use Rattle.rules.specs.Lister.{size, outcome_by, lines_by, listed_by}
