@@ -19,16 +19,24 @@ getcontext().prec = 120
 
 
 def constants(module):
-    """the associated constants of a curve's type: its numbers, its lists, and its rows of named numbers by EI. A row may name a number."""
+    """the associated constants of a curve's type: its numbers, its lists, and the rows of its table. A row may name a number."""
     text = (ROOT / f"crates/curves/src/{module}.rt").read_text()
     number = lambda x: int(x.replace("_", ""))
     out = {name: number(x) for name, x in re.findall(r"pub const (\w+): \w+ = ([\d_]+);", text)}
     for name, xs in re.findall(r"pub const (\w+): \[\w+; \d+\] = \[([\d, ]+)\];", text):
         out[name] = [number(x) for x in xs.split(",")]
     value = lambda x: number(x) if x[-1].isdigit() else out[x.split("::")[1]]
-    rows = re.findall(r"pub const EI_(\d+): \w+ = \w+ \{([^}]*)\}", text)
-    out["rows"] = {int(ei): {k: value(x) for k, x in re.findall(r"(\w+): ([-\w:]+),", row)} for ei, row in rows}
+    table = re.search(r"pub const TABLE: [^=]*= \[(.*?)\n    \];", text, re.S)
+    rows = re.findall(r"LogC \{([^}]*)\}", table[1]) if table else []
+    out["rows"] = [{k: value(x) for k, x in re.findall(r"(\w+): ([-\w:]+),", row)} for row in rows]
     return out
+
+
+def eis():
+    """the EIs of a curve with a toe, in the order of their rows"""
+    text = (ROOT / "crates/curves/src/log_c.rt").read_text()
+    rows = {int(row): int(ei) for ei, row in re.findall(r"(\d+) => (\d+),", text)}
+    return [rows[i] for i in range(constants("log_c")["ROWS"])]
 
 
 class Curve:
@@ -43,8 +51,8 @@ class Curve:
 def with_toe(number):
     """a curve with a toe, 2 or 3, at each EI"""
     k = constants(f"log_c{number}")
-    assert len(k["rows"]) == constants("log_c")["ROWS"], k["rows"]
-    return [Curve(f"LOGC{number}_EI{ei}", number, k["WIDTHS"], 10, 10 ** 6, 0, row["d"], row["c"], 10 ** 6, row["a"]) for ei, row in k["rows"].items()]
+    assert len(k["rows"]) == len(eis()), k["rows"]
+    return [Curve(f"LOGC{number}_EI{ei}", number, k["WIDTHS"], 10, 10 ** 6, 0, row["d"], row["c"], 10 ** 6, row["a"]) for ei, row in zip(eis(), k["rows"])]
 
 
 def curves():
@@ -132,7 +140,7 @@ def table(curve, last, front, first, ratio):
 
 
 def written():
-    seeds, consts = {2: [], 3: [], 4: []}, []
+    seeds, consts, by_width = {2: [], 3: [], 4: []}, [], {}
     for c in curves():
         front, first = seed(c.base, c.over, c.plus + LIFT * c.over - c.minus)
         ratios = ""
@@ -142,6 +150,8 @@ def written():
             ratios += f"at {last} {ratio} ∷ "
             entries = "".join(f"    {x},\n" for x in table(c, last, front, first, ratio))
             consts.append(f"\npub const {c.name}_W{w}: [u64; 128] = [\n{entries}];\n")
+            if c.number in (2, 3):
+                by_width.setdefault(f"LOGC{c.number}_W{w}", []).append(f"{c.name}_W{w}")
         seeds[c.number].append(f"seed {front} {first} ({ratios}[])")
     antt = (
         "-- The numbers that the tables are computed from. Written by tools/tables.py.\n"
@@ -171,7 +181,15 @@ def written():
             for number in (2, 3)
         )
     )
-    rt = "// The tables of the curves, one for each setting. Written by tools/tables.py.\n" + "".join(consts)
+    by_rows = "".join(
+        f"\npub const {name}: [[u64; 128]; {len(rows)}] = [\n" + "".join(f"    {row},\n" for row in rows) + "];\n" for name, rows in by_width.items()
+    )
+    rt = (
+        "// The tables of the curves, one for each setting, and those of a curve with a toe at a width by the rows of its constants. Written by\n"
+        "// tools/tables.py.\n"
+        + "".join(consts)
+        + by_rows
+    )
     return {"crates/curve_table/specs/Seeds.antt": antt, "crates/curve_table/src/values.rt": rt, "crates/nearest_code/src/log_line.rt": lines()}
 
 
@@ -183,28 +201,15 @@ def line(curve):
     return round(slope * 2 ** 32), round(start * 2 ** 48)
 
 
-def by_row(number, names):
-    """the function that gives the line of a row of a curve's constants"""
-    arms = "".join(f"            {row} => LogLine::{name},\n" for row, name in enumerate(names))
-    return (
-        f"    // The line of a row of curve {number}'s constants.\n"
-        f"    fn log_c{number}(row: usize) -> LogLine\n"
-        "        ensures { result.slope < 2 ^ 29 }\n"
-        "    {\n"
-        "        match row {\n"
-        f"{arms}"
-        "            _ => LogLine::NONE,\n"
-        "        }\n"
-        "    }\n\n"
-    )
-
-
 def lines():
-    consts, names = "", {2: [], 3: [], 4: []}
-    for c in curves():
-        slope, start = line(c)
-        consts += f"    pub const {c.name}: LogLine = LogLine {{\n        slope: {slope},\n        start: {start},\n    }};\n\n"
-        names[c.number].append(c.name)
+    def text(curve, pad):
+        slope, start = line(curve)
+        return f"LogLine {{\n{pad}    slope: {slope},\n{pad}    start: {start},\n{pad}}}"
+
+    def by_row(number):
+        rows = "".join(f"        // EI {ei}\n        {text(c, '        ')},\n" for ei, c in zip(eis(), with_toe(number)))
+        return f"    // The lines of curve {number} by the rows of its constants.\n    pub const LOG_C{number}: [LogLine; LogC::ROWS] = [\n{rows}    ];\n\n"
+
     return (
         "// The lines of the guess, one for each curve, and for each EI of a curve with a toe. Written by tools/tables.py.\n"
         "ghost use Rattle.std.specs.Prelude.{◌^◌, ◌<◌};\n"
@@ -218,24 +223,25 @@ def lines():
         "// Above the toe a step's number, less the decoder's bias, is a number z over 2^27, and the signal is slope * log2(z) - start. The slope is\n"
         "// in units of 2^-32, the start in units of 2^-48.\n"
         "#[derive(Clone, Copy)]\n"
-        "pub struct LogLine {\n    pub slope: u64,\n    pub start: u64,\n}\n"
+        "pub struct LogLine {\n    pub slope: u64,\n    pub start: u64,\n    pub ghost small: { slope < 2 ^ 29 },\n}\n"
         "\n"
         "impl LogLine {\n"
-        f"{consts}"
-        "    // of no curve\n"
+        f"    pub const LOG_C4: LogLine = {text(curves()[0], '    ')};\n\n"
+        f"{by_row(2)}"
+        f"{by_row(3)}"
+        "    // of no curve (no Option: nothing but speed rests on a line)\n"
         "    pub const NONE: LogLine = LogLine { slope: 0, start: 0 };\n\n"
-        f"{by_row(2, names[2])}"
-        f"{by_row(3, names[3])}"
+        "    // The line of a row of constants, among those of a curve with a toe.\n"
+        "    fn by_row(lines: &[LogLine; LogC::ROWS], row: usize) -> LogLine {\n"
+        "        if row < LogC::ROWS {\n            lines[row]\n        } else {\n            LogLine::NONE\n        }\n"
+        "    }\n\n"
         "    // The line of a setting. (It goes by the curve's number: to name the curve first took 4 % of the\n"
         "    // way back's time.)\n"
-        "    pub fn of(s: Setting) -> LogLine\n"
-        "        ensures { result.slope < 2 ^ 29 }\n"
-        "    {\n"
-        "        let curve = s.curve;\n"
-        "        match curve {\n"
-        "            LogC2::NUMBER => LogLine::log_c2(LogC::row(s.ei)),\n"
-        "            LogC3::NUMBER => LogLine::log_c3(LogC::row(s.ei)),\n"
-        "            LogC4::NUMBER => LogLine::LOGC4,\n"
+        "    pub fn of(s: Setting) -> LogLine {\n"
+        "        match s.curve {\n"
+        "            LogC2::NUMBER => LogLine::by_row(&LogLine::LOG_C2, LogC::row(s.ei)),\n"
+        "            LogC3::NUMBER => LogLine::by_row(&LogLine::LOG_C3, LogC::row(s.ei)),\n"
+        "            LogC4::NUMBER => LogLine::LOG_C4,\n"
         "            _ => LogLine::NONE,\n"
         "        }\n"
         "    }\n"

@@ -15,7 +15,8 @@ const LOG_C4: [[i64; 3]; 3] = [
 ];
 
 // Its entries by three digits to the base 10^6, since a product with a whole entry does not fit a
-// word: 821837079380207 is 821, 837079 and 380207. A digit has the sign of its entry.
+// word: 821837079380207 is 821, 837079 and 380207. A digit has the sign of its entry. (Written out entry by entry, since a
+// constant's value may hold no call and no loop.)
 const E6: i64 = 1000000;
 
 const UPPER: [[i64; 3]; 3] = [

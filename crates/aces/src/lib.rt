@@ -6,7 +6,6 @@ ghost use Rattle.std.specs.Prelude.{◌≡◌, ◌^◌};
 ghost use Rattle.rules.specs.Fraction.{integer, whole, ◌/ℚ◌, nearest};
 ghost use Rattle.rules.specs.Matrix.{log_c3_matrix, log_c4_matrix, matrix_of, IsAces};
 ghost use Rattle.rules.specs.Pixels.{IsPixel};
-ghost use Rattle.decode.specs.Ready.{Ready};
 ghost use Rattle.row_product.specs.Row.{Number, Sum};
 ghost use Rattle.aces.specs.Joined.{joined};
 ghost use Rattle.aces.specs.OfPixel.{pixel_aces};
@@ -15,10 +14,10 @@ mod entries;
 
 use curves::log_c3::LogC3;
 use curves::log_c4::LogC4;
-use decode::decoder::Decoder;
+use decode::prepared::Prepared;
 use rules::{Aces, Pixel, Scene, Setting, Triple};
 
-// of a curve that has no matrix
+// of a curve that has no matrix (no Option: by the rules its ACES numbers are 0)
 const NONE: Triple = Triple {
     red: Aces(0),
     green: Aces(0),
@@ -35,9 +34,9 @@ fn over_million(p: i64) -> i64
 
 // A row product over 10^18, of which l, m and h are those of the digits, rounded once.
 fn over_digits(l: i64, m: i64, h: i64) -> i64
-    requires sum { Sum l }
-    requires sum_2 { Sum m }
-    requires sum_3 { Sum h }
+    requires low { Sum l }
+    requires middle { Sum m }
+    requires high { Sum h }
     ensures { result ≡ nearest (integer (joined h m l) /ℚ whole (10 ^ 18)) }
 {
     let carry = whole::floor_million(l);
@@ -45,11 +44,12 @@ fn over_digits(l: i64, m: i64, h: i64) -> i64
     whole::floor_million(h + second + 500000)
 }
 
-// The ACES numbers of three scene numbers, by the matrix of curve 3 and by that of curve 4.
+// The ACES numbers of three scene numbers, by the matrix of curve 3 and by that of curve 4. (Two functions: an entry of curve 3 is
+// one factor, and one of curve 4 is taken by three digits.)
 fn aces_c3(x: Scene, y: Scene, z: Scene) -> Triple
-    requires number { Number x.0 }
-    requires number_2 { Number y.0 }
-    requires number_3 { Number z.0 }
+    requires red { Number x.0 }
+    requires green { Number y.0 }
+    requires blue { Number z.0 }
     ensures { IsAces log_c3_matrix x.0 y.0 z.0 result.red.0 result.green.0 result.blue.0 }
 {
     let p = row_product::products(entries::LOG_C3, x.0, y.0, z.0);
@@ -61,9 +61,9 @@ fn aces_c3(x: Scene, y: Scene, z: Scene) -> Triple
 }
 
 fn aces_c4(x: Scene, y: Scene, z: Scene) -> Triple
-    requires number { Number x.0 }
-    requires number_2 { Number y.0 }
-    requires number_3 { Number z.0 }
+    requires red { Number x.0 }
+    requires green { Number y.0 }
+    requires blue { Number z.0 }
     ensures { IsAces log_c4_matrix x.0 y.0 z.0 result.red.0 result.green.0 result.blue.0 }
 {
     let red = x.0;
@@ -82,27 +82,26 @@ fn aces_c4(x: Scene, y: Scene, z: Scene) -> Triple
 // The ACES numbers of three scene numbers, 0 where there is no matrix. (It goes by the curve's number: to
 // name the curve first took 5 % of pixel to ACES.)
 fn aces(s: Setting, x: Scene, y: Scene, z: Scene) -> Triple
-    requires number { Number x.0 }
-    requires number_2 { Number y.0 }
-    requires number_3 { Number z.0 }
+    requires red { Number x.0 }
+    requires green { Number y.0 }
+    requires blue { Number z.0 }
     ensures { IsAces (matrix_of s) x.0 y.0 z.0 result.red.0 result.green.0 result.blue.0 }
 {
-    let curve = s.curve;
-    match curve {
+    match s.curve {
         LogC3::NUMBER => aces_c3(x, y, z),
         LogC4::NUMBER => aces_c4(x, y, z),
         _ => NONE,
     }
 }
 
-// The ACES numbers of a pixel.
-pub fn of_pixel(s: Setting, d: Decoder, t: &[u64; 128], p: Pixel) -> Triple
-    requires ready { Ready s d t.now }
-    requires pixel { IsPixel s p }
-    ensures { result ≡ pixel_aces s p }
+// The ACES numbers of a pixel. (That it is a pixel of the setting, and that numbers are small, are clauses: the values are read from a record.)
+#[tactic(auto, using(crate::proofs::Theorems::scene_number))]
+pub fn of_pixel(d: &Prepared, p: Pixel) -> Triple
+    requires pixel { IsPixel d.now.setting p }
+    ensures { result ≡ pixel_aces d.now.setting p }
 {
-    let x = decode::decoder::scene(s, d, t, p.red);
-    let y = decode::decoder::scene(s, d, t, p.green);
-    let z = decode::decoder::scene(s, d, t, p.blue);
-    aces(s, x, y, z)
+    let x = d.scene(p.red);
+    let y = d.scene(p.green);
+    let z = d.scene(p.blue);
+    aces(d.setting, x, y, z)
 }

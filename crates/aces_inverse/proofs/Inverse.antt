@@ -1,6 +1,7 @@
 -- A matrix and its inverse: from three numbers at most e from the ACES numbers of three scene numbers the inverse leads to within 2 e + 1
 -- units of these. And from the scene numbers that the inverse makes of three numbers the matrix leads to within one unit of these.
 -- Assumes nothing.
+use Rattle.std.specs.Prelude.{Ok}
 use mathlib.Core.Bool.{Bool}
 use mathlib.Core.List.{List, [], ◌∷◌}
 use mathlib.Core.Path.{◌≡◌, refl, sym, subst}
@@ -14,10 +15,9 @@ use Rattle.whole.proofs.Floor.{half_bounds}
 use Rattle.whole.proofs.Reflect.{at, add, mul, eq_z}
 use Rattle.whole.proofs.Near.{Near, same_near, near_of, of_near, near_join, near_more, near_mul, near_cancel, near_test, abs_near, near_abs}
 use Rattle.rules.specs.declared.Setting.{Setting}
-use Rattle.rules.specs.declared.Triple.{Triple}
+use Rattle.rules.specs.Triples.{Triple}
 use Rattle.rules.specs.declared.CurveName.{CurveName}
 use Rattle.rules.specs.declared.CurveName.TheVariants.{LogC2, LogC3, LogC4, Unknown}
-use Rattle.rules.specs.declared.Check.TheVariants.{Passed}
 use Rattle.rules.specs.Encoding.{scene_check}
 use Rattle.rules.specs.Setting.{named, ValidForAces}
 use Rattle.rules.proofs.Between.{scene_passes}
@@ -229,7 +229,7 @@ module _ (s : Setting) (v : ValidForAces s) where
       (light (inverse_rows s) (matrix_of s).rows (half_scale c) (2 ^ 39) (slack_of c) (3 * largest) heavy_back farthest k (takes_back k l))
       (near_zero h) (lit< tt)
 
-  pub candidate_encodes : (x y z : ℤ) → InReach x y z → (k : ℕ) → k < 3 → scene_check (candidate s k x y z) ≡ Passed
+  pub candidate_encodes : (x y z : ℤ) → InReach x y z → (k : ℕ) → k < 3 → scene_check (candidate s k x y z) ≡ Ok tt
   candidate_encodes x y z h k l = scene_passes (candidate s k x y z) (candidate_small x y z h k l)
 
   -- the matrix, with its scale

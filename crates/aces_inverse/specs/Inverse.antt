@@ -8,8 +8,7 @@ use Rattle.rules.specs.declared.CurveName.{CurveName}
 use Rattle.rules.specs.declared.CurveName.TheVariants.{LogC2, LogC3, LogC4, Unknown}
 use Rattle.rules.specs.Setting.{named}
 use Rattle.whole.specs.Parts.{minus}
-use Rattle.rules.specs.declared.Scenes.{Scenes}
-use Rattle.rules.specs.declared.Triple.{Triple}
+use Rattle.rules.specs.Triples.{Triple, Scenes}
 use Rattle.rules.specs.Matrix.{Matrix, aces_number}
 use Rattle.rules.specs.Pixels.{scenes}
 use Rattle.row_product.specs.Row.{over}

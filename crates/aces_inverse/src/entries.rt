@@ -23,29 +23,41 @@ pub const REST: i64 = 40 - DIGIT;
 
 pub const HALF: i64 = 1 << (REST - 1);
 
-pub const BACK_3_HIGH: [[i64; 3]; 3] = [
-    [BACK_3[0][0] / P21, BACK_3[0][1] / P21, BACK_3[0][2] / P21],
-    [BACK_3[1][0] / P21, BACK_3[1][1] / P21, BACK_3[1][2] / P21],
-    [BACK_3[2][0] / P21, BACK_3[2][1] / P21, BACK_3[2][2] / P21],
-];
+// The digits of a matrix's entries. (Written out entry by entry, since a constant's value may hold no call and no loop.)
+#[derive(Clone, Copy)]
+pub struct Digits {
+    pub high: [[i64; 3]; 3],
+    pub low: [[i64; 3]; 3],
+}
 
-pub const BACK_3_LOW: [[i64; 3]; 3] = [
-    [BACK_3[0][0] % P21, BACK_3[0][1] % P21, BACK_3[0][2] % P21],
-    [BACK_3[1][0] % P21, BACK_3[1][1] % P21, BACK_3[1][2] % P21],
-    [BACK_3[2][0] % P21, BACK_3[2][1] % P21, BACK_3[2][2] % P21],
-];
+pub const LOG_C3: Digits = Digits {
+    high: [
+        [BACK_3[0][0] / P21, BACK_3[0][1] / P21, BACK_3[0][2] / P21],
+        [BACK_3[1][0] / P21, BACK_3[1][1] / P21, BACK_3[1][2] / P21],
+        [BACK_3[2][0] / P21, BACK_3[2][1] / P21, BACK_3[2][2] / P21],
+    ],
+    low: [
+        [BACK_3[0][0] % P21, BACK_3[0][1] % P21, BACK_3[0][2] % P21],
+        [BACK_3[1][0] % P21, BACK_3[1][1] % P21, BACK_3[1][2] % P21],
+        [BACK_3[2][0] % P21, BACK_3[2][1] % P21, BACK_3[2][2] % P21],
+    ],
+};
 
-pub const BACK_4_HIGH: [[i64; 3]; 3] = [
-    [BACK_4[0][0] / P21, BACK_4[0][1] / P21, BACK_4[0][2] / P21],
-    [BACK_4[1][0] / P21, BACK_4[1][1] / P21, BACK_4[1][2] / P21],
-    [BACK_4[2][0] / P21, BACK_4[2][1] / P21, BACK_4[2][2] / P21],
-];
+pub const LOG_C4: Digits = Digits {
+    high: [
+        [BACK_4[0][0] / P21, BACK_4[0][1] / P21, BACK_4[0][2] / P21],
+        [BACK_4[1][0] / P21, BACK_4[1][1] / P21, BACK_4[1][2] / P21],
+        [BACK_4[2][0] / P21, BACK_4[2][1] / P21, BACK_4[2][2] / P21],
+    ],
+    low: [
+        [BACK_4[0][0] % P21, BACK_4[0][1] % P21, BACK_4[0][2] % P21],
+        [BACK_4[1][0] % P21, BACK_4[1][1] % P21, BACK_4[1][2] % P21],
+        [BACK_4[2][0] % P21, BACK_4[2][1] % P21, BACK_4[2][2] % P21],
+    ],
+};
 
-pub const BACK_4_LOW: [[i64; 3]; 3] = [
-    [BACK_4[0][0] % P21, BACK_4[0][1] % P21, BACK_4[0][2] % P21],
-    [BACK_4[1][0] % P21, BACK_4[1][1] % P21, BACK_4[1][2] % P21],
-    [BACK_4[2][0] % P21, BACK_4[2][1] % P21, BACK_4[2][2] % P21],
-];
-
-// of a curve that has no matrix
-pub const NONE: [[i64; 3]; 3] = [[0; 3]; 3];
+// of a curve that has no matrix (no Option: no setting that is valid for ACES comes here)
+pub const NONE: Digits = Digits {
+    high: [[0; 3]; 3],
+    low: [[0; 3]; 3],
+};

@@ -14,38 +14,27 @@ mod entries;
 
 use curves::log_c3::LogC3;
 use curves::log_c4::LogC4;
+use entries::Digits;
 use rules::{Aces, Scene, Scenes, Setting};
 
 // The digits of the inverse of a setting's matrix. (By the curve's number, as the matrix is chosen. The last
 // arm is of no setting that is valid for ACES.)
-fn high_of(s: Setting) -> [[i64; 3]; 3]
+fn digits_of(s: Setting) -> Digits
     requires { ValidForAces s }
-    ensures { result ≡ high_rows s }
+    ensures high { result.high ≡ high_rows s }
+    ensures low { result.low ≡ low_rows s }
 {
-    let curve = s.curve;
-    match curve {
-        LogC3::NUMBER => entries::BACK_3_HIGH,
-        LogC4::NUMBER => entries::BACK_4_HIGH,
-        _ => entries::NONE,
-    }
-}
-
-fn low_of(s: Setting) -> [[i64; 3]; 3]
-    requires { ValidForAces s }
-    ensures { result ≡ low_rows s }
-{
-    let curve = s.curve;
-    match curve {
-        LogC3::NUMBER => entries::BACK_3_LOW,
-        LogC4::NUMBER => entries::BACK_4_LOW,
+    match s.curve {
+        LogC3::NUMBER => entries::LOG_C3,
+        LogC4::NUMBER => entries::LOG_C4,
         _ => entries::NONE,
     }
 }
 
 // A row product over 2^40, of which l and h are those of the digits, rounded once.
 fn over_binary(l: i64, h: i64) -> i64
-    requires sum { Sum l }
-    requires sum_2 { Sum h }
+    requires low { Sum l }
+    requires high { Sum h }
     ensures { result ≡ nearest (integer (pair h l) /ℚ whole (2 ^ 40)) }
 {
     let carry = l >> entries::DIGIT;
@@ -62,8 +51,9 @@ pub fn candidate(s: Setting, red: Aces, green: Aces, blue: Aces) -> Scenes
     let x = red.0;
     let y = green.0;
     let z = blue.0;
-    let l = row_product::products(low_of(s), x, y, z);
-    let h = row_product::products(high_of(s), x, y, z);
+    let digits = digits_of(s);
+    let l = row_product::products(digits.low, x, y, z);
+    let h = row_product::products(digits.high, x, y, z);
     Scenes {
         red: Scene(over_binary(l.red, h.red)),
         green: Scene(over_binary(l.green, h.green)),

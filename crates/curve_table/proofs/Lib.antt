@@ -1,1 +1,1 @@
-mod Last
+mod Rows

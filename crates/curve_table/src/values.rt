@@ -1,4 +1,5 @@
-// The tables of the curves, one for each setting. Written by tools/tables.py.
+// The tables of the curves, one for each setting, and those of a curve with a toe at a width by the rows of its constants. Written by
+// tools/tables.py.
 
 pub const LOGC4_W12: [u64; 128] = [
     765184673638552,
@@ -7465,4 +7466,74 @@ pub const LOGC3_EI1600_W16: [u64; 128] = [
     9262980117290180385,
     9264348942686731348,
     9265717970359757325,
+];
+
+pub const LOGC2_W10: [[u64; 128]; 11] = [
+    LOGC2_EI160_W10,
+    LOGC2_EI200_W10,
+    LOGC2_EI250_W10,
+    LOGC2_EI320_W10,
+    LOGC2_EI400_W10,
+    LOGC2_EI500_W10,
+    LOGC2_EI640_W10,
+    LOGC2_EI800_W10,
+    LOGC2_EI1000_W10,
+    LOGC2_EI1280_W10,
+    LOGC2_EI1600_W10,
+];
+
+pub const LOGC2_W12: [[u64; 128]; 11] = [
+    LOGC2_EI160_W12,
+    LOGC2_EI200_W12,
+    LOGC2_EI250_W12,
+    LOGC2_EI320_W12,
+    LOGC2_EI400_W12,
+    LOGC2_EI500_W12,
+    LOGC2_EI640_W12,
+    LOGC2_EI800_W12,
+    LOGC2_EI1000_W12,
+    LOGC2_EI1280_W12,
+    LOGC2_EI1600_W12,
+];
+
+pub const LOGC3_W10: [[u64; 128]; 11] = [
+    LOGC3_EI160_W10,
+    LOGC3_EI200_W10,
+    LOGC3_EI250_W10,
+    LOGC3_EI320_W10,
+    LOGC3_EI400_W10,
+    LOGC3_EI500_W10,
+    LOGC3_EI640_W10,
+    LOGC3_EI800_W10,
+    LOGC3_EI1000_W10,
+    LOGC3_EI1280_W10,
+    LOGC3_EI1600_W10,
+];
+
+pub const LOGC3_W12: [[u64; 128]; 11] = [
+    LOGC3_EI160_W12,
+    LOGC3_EI200_W12,
+    LOGC3_EI250_W12,
+    LOGC3_EI320_W12,
+    LOGC3_EI400_W12,
+    LOGC3_EI500_W12,
+    LOGC3_EI640_W12,
+    LOGC3_EI800_W12,
+    LOGC3_EI1000_W12,
+    LOGC3_EI1280_W12,
+    LOGC3_EI1600_W12,
+];
+
+pub const LOGC3_W16: [[u64; 128]; 11] = [
+    LOGC3_EI160_W16,
+    LOGC3_EI200_W16,
+    LOGC3_EI250_W16,
+    LOGC3_EI320_W16,
+    LOGC3_EI400_W16,
+    LOGC3_EI500_W16,
+    LOGC3_EI640_W16,
+    LOGC3_EI800_W16,
+    LOGC3_EI1000_W16,
+    LOGC3_EI1280_W16,
+    LOGC3_EI1600_W16,
 ];

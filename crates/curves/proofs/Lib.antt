@@ -1,2 +1,2 @@
 mod Member
-pub mod Rows
+mod Rows

@@ -1,21 +1,18 @@
--- Whether a number is one of a list, of which the first i are looked at.
+-- Whether a number is one of a list, as the library's `contains` says it.
 -- Assumes nothing.
-use mathlib.Core.Bool.{true, false}
-use mathlib.Core.List.{List}
-use mathlib.Core.Path.{◌≡◌, sym}
-use Prim.Native.Nat.{ℕ, ◌+◌, ◌≤◌, ◌<◌}
-use native.Mathlib.Numerals.{add-one}
-use borrow.Author.Tests.{eq-eqb, ne_eqb}
-use lib.ListN.{length, get_or, drop, drop_of_length-le}
-use lib.Seq.{drop-cons}
-use Rattle.rules.specs.Choice.{member}
+use mathlib.Core.Bool.{Bool, true, false}
+use mathlib.Core.List.{List, [], ◌∷◌}
+use mathlib.Core.Path.{◌≡◌, refl, sym}
+use Prim.Native.Nat.{ℕ}
+use borrow.Author.Tests.{eq-eqb, ne_eqb, eqb-true, eqb-false}
+use lib.Dec.{eqb}
+use Rattle.std.specs.List.{list_any}
+use Rattle.rules.specs.Choice.{choose, member}
 
-module _ (l : List ℕ) (x i : ℕ) where
-  pub here : i < length l → get_or l i 0 ≡ x → member x (drop i l) ≡ true
-  here h e = rw (drop-cons l i 0, eq-eqb x (get_or l i 0) (sym e))
-
-  pub later : i < length l → (get_or l i 0 ≡ x → ⊥) → member x (drop i l) ≡ member x (drop (i + 1) l)
-  later h f = rw (drop-cons l i 0, add-one, ne_eqb x (get_or l i 0) (λ e. f (sym e)))
-
-  pub nowhere : length l ≤ i → member x (drop i l) ≡ false
-  nowhere h = rw (drop_of_length-le l h)
+pub any_member : (x : ℕ) (l : List ℕ) → list_any (λ y. eqb y x) l ≡ member x l
+any_member x [] = refl
+any_member x (y ∷ ys) = go (eqb y x) refl (any_member x ys)
+  where
+    go : (b : Bool) → eqb y x ≡ b → list_any (λ y. eqb y x) ys ≡ member x ys → list_any (λ y. eqb y x) (y ∷ ys) ≡ choose (eqb x y) true (member x ys)
+    go true e h = rw (e, eq-eqb x y (sym (eqb-true y x e)))
+    go false e h = rw (e, ne_eqb x y (λ q. eqb-false y x e (sym q))) h

@@ -17,7 +17,7 @@ use log_c3::LogC3;
 use log_c4::LogC4;
 use rules::CurveName;
 
-// The curve that a number names.
+// The curve that a number names. (No From: the enum is of the rules, which have no curve's number as a constant.)
 pub fn name_of(curve: u8) -> CurveName
     ensures { result ≡ named curve }
 {
@@ -41,7 +41,7 @@ pub fn has_matrix(curve: u8) -> bool
     }
 }
 
-// How far apart the decoded numbers of two codes of a curve are at least, in units.
+// How far apart the decoded numbers of two codes of a curve are at least, in units. (0 for no curve, as in the rules.)
 pub fn gap_of(curve: u8) -> u64
     ensures { (result ≡ gap_of (named curve)) × (result < 2 ^ 16) }
 {

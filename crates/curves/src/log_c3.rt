@@ -25,141 +25,131 @@ impl LogC3 {
     // "Always a = 5.555556."
     pub const A: u64 = 5_555556;
 
-    pub const EI_160: LogC = LogC {
-        a: LogC3::A,
-        cut: 0_005561,
-        b: 0_080216,
-        c: 0_269036,
-        d: 0_381991,
-        e: 5_842037,
-        f: 0_092778,
-    };
+    // The constants by their rows, those of `LogC::row`.
+    pub const TABLE: [LogC; LogC::ROWS] = [
+        // EI 160
+        LogC {
+            a: LogC3::A,
+            cut: 0_005561,
+            b: 0_080216,
+            c: 0_269036,
+            d: 0_381991,
+            e: 5_842037,
+            f: 0_092778,
+        },
+        // EI 200
+        LogC {
+            a: LogC3::A,
+            cut: 0_006208,
+            b: 0_076621,
+            c: 0_266007,
+            d: 0_382478,
+            e: 5_776265,
+            f: 0_092782,
+        },
+        // EI 250
+        LogC {
+            a: LogC3::A,
+            cut: 0_006871,
+            b: 0_072941,
+            c: 0_262978,
+            d: 0_382966,
+            e: 5_710494,
+            f: 0_092786,
+        },
+        // EI 320
+        LogC {
+            a: LogC3::A,
+            cut: 0_007622,
+            b: 0_068768,
+            c: 0_259627,
+            d: 0_383508,
+            e: 5_637732,
+            f: 0_092791,
+        },
+        // EI 400
+        LogC {
+            a: LogC3::A,
+            cut: 0_008318,
+            b: 0_064901,
+            c: 0_256598,
+            d: 0_383999,
+            e: 5_571960,
+            f: 0_092795,
+        },
+        // EI 500
+        LogC {
+            a: LogC3::A,
+            cut: 0_009031,
+            b: 0_060939,
+            c: 0_253569,
+            d: 0_384493,
+            e: 5_506188,
+            f: 0_092800,
+        },
+        // EI 640
+        LogC {
+            a: LogC3::A,
+            cut: 0_009840,
+            b: 0_056443,
+            c: 0_250219,
+            d: 0_385040,
+            e: 5_433426,
+            f: 0_092805,
+        },
+        // EI 800
+        LogC {
+            a: LogC3::A,
+            cut: 0_010591,
+            b: 0_052272,
+            c: 0_247190,
+            d: 0_385537,
+            e: 5_367655,
+            f: 0_092809,
+        },
+        // EI 1000
+        LogC {
+            a: LogC3::A,
+            cut: 0_011361,
+            b: 0_047996,
+            c: 0_244161,
+            d: 0_386036,
+            e: 5_301883,
+            f: 0_092814,
+        },
+        // EI 1280
+        LogC {
+            a: LogC3::A,
+            cut: 0_012235,
+            b: 0_043137,
+            c: 0_240810,
+            d: 0_386590,
+            e: 5_229121,
+            f: 0_092819,
+        },
+        // EI 1600
+        LogC {
+            a: LogC3::A,
+            cut: 0_013047,
+            b: 0_038625,
+            c: 0_237781,
+            d: 0_387093,
+            e: 5_163350,
+            f: 0_092824,
+        },
+    ];
 
-    pub const EI_200: LogC = LogC {
-        a: LogC3::A,
-        cut: 0_006208,
-        b: 0_076621,
-        c: 0_266007,
-        d: 0_382478,
-        e: 5_776265,
-        f: 0_092782,
-    };
-
-    pub const EI_250: LogC = LogC {
-        a: LogC3::A,
-        cut: 0_006871,
-        b: 0_072941,
-        c: 0_262978,
-        d: 0_382966,
-        e: 5_710494,
-        f: 0_092786,
-    };
-
-    pub const EI_320: LogC = LogC {
-        a: LogC3::A,
-        cut: 0_007622,
-        b: 0_068768,
-        c: 0_259627,
-        d: 0_383508,
-        e: 5_637732,
-        f: 0_092791,
-    };
-
-    pub const EI_400: LogC = LogC {
-        a: LogC3::A,
-        cut: 0_008318,
-        b: 0_064901,
-        c: 0_256598,
-        d: 0_383999,
-        e: 5_571960,
-        f: 0_092795,
-    };
-
-    pub const EI_500: LogC = LogC {
-        a: LogC3::A,
-        cut: 0_009031,
-        b: 0_060939,
-        c: 0_253569,
-        d: 0_384493,
-        e: 5_506188,
-        f: 0_092800,
-    };
-
-    pub const EI_640: LogC = LogC {
-        a: LogC3::A,
-        cut: 0_009840,
-        b: 0_056443,
-        c: 0_250219,
-        d: 0_385040,
-        e: 5_433426,
-        f: 0_092805,
-    };
-
-    pub const EI_800: LogC = LogC {
-        a: LogC3::A,
-        cut: 0_010591,
-        b: 0_052272,
-        c: 0_247190,
-        d: 0_385537,
-        e: 5_367655,
-        f: 0_092809,
-    };
-
-    pub const EI_1000: LogC = LogC {
-        a: LogC3::A,
-        cut: 0_011361,
-        b: 0_047996,
-        c: 0_244161,
-        d: 0_386036,
-        e: 5_301883,
-        f: 0_092814,
-    };
-
-    pub const EI_1280: LogC = LogC {
-        a: LogC3::A,
-        cut: 0_012235,
-        b: 0_043137,
-        c: 0_240810,
-        d: 0_386590,
-        e: 5_229121,
-        f: 0_092819,
-    };
-
-    pub const EI_1600: LogC = LogC {
-        a: LogC3::A,
-        cut: 0_013047,
-        b: 0_038625,
-        c: 0_237781,
-        d: 0_387093,
-        e: 5_163350,
-        f: 0_092824,
-    };
-
+    // (One for each curve: the clause says whose widths they are, and the lists differ in length.)
     pub fn has_width(width: u8) -> bool
         ensures { result ≡ member width (widths_of named.CurveName.LogC3) }
     {
-        let widths = LogC3::WIDTHS;
-        lists::is_one_of(&widths, width)
+        lists::is_one_of(&LogC3::WIDTHS, width)
     }
 
-    // The constants of an EI.
+    // The constants of an EI. (One for each of the two curves: the clause says whose rows they are.)
     pub fn at(ei: u16) -> LogC
         ensures { constants_of result ≡ constants_at ei log_c3_rows }
     {
-        let row = LogC::row(ei);
-        match row {
-            0 => LogC3::EI_160,
-            1 => LogC3::EI_200,
-            2 => LogC3::EI_250,
-            3 => LogC3::EI_320,
-            4 => LogC3::EI_400,
-            5 => LogC3::EI_500,
-            6 => LogC3::EI_640,
-            7 => LogC3::EI_800,
-            8 => LogC3::EI_1000,
-            9 => LogC3::EI_1280,
-            10 => LogC3::EI_1600,
-            _ => LogC::NONE,
-        }
+        LogC::in_table(&LogC3::TABLE, ei)
     }
 }

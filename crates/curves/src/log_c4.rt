@@ -52,11 +52,11 @@ impl LogC4 {
 
     pub const OVER: u64 = 1747520;
 
+    // (One for each curve: the clause says whose widths they are, and the lists differ in length.)
     pub fn has_width(width: u8) -> bool
         ensures { result ≡ member width (widths_of named.CurveName.LogC4) }
     {
-        let widths = LogC4::WIDTHS;
-        lists::is_one_of(&widths, width)
+        lists::is_one_of(&LogC4::WIDTHS, width)
     }
 
     pub fn has_ei(ei: u16) -> bool

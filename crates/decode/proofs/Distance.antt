@@ -1,5 +1,6 @@
 -- How far apart two decoded numbers of one step may be; and so what is true of any numbers that the rules allow for the codes of a setting.
 -- Assumes nothing.
+use Rattle.std.specs.Prelude.{Ok}
 use mathlib.Core.Path.{◌≡◌, refl, sym, ap, ◌∙◌, subst, subst₂}
 use mathlib.Core.Bool.{Bool, true, false}
 use mathlib.Core.List.{List}
@@ -14,7 +15,6 @@ use Rattle.whole.proofs.Powers.{mul_pow}
 use Rattle.whole.proofs.Reflect.{at, abs_is, one_zero, lt_z-of, sub_dif}
 use Rattle.whole.proofs.Near.{Near}
 use Rattle.rules.specs.declared.Setting.{Setting}
-use Rattle.rules.specs.declared.Check.TheVariants.{Passed}
 use Rattle.rules.specs.Setting.{step_of, code_check, Valid}
 use Rattle.rules.specs.Fraction.{Fraction, ratio, whole, integer, ◌+ℚ◌, ◌-ℚ◌, ◌*ℚ◌, VersusPower, cleared, Less, Greater}
 use Rattle.rules.specs.Curve.{Curve, base, exponent, in_toe}
@@ -111,21 +111,21 @@ module _ (N D : ℕ) (pD : 0 < D) {k : Scale} {g : ℕ} {t : List ℕ} {s : Sour
 -- ---- of a valid setting, for any numbers that the rules allow
 module _ (s : Setting) (v : Valid s) where
   -- how far they are at most from the number that is computed
-  pub decodes_near : (n : ℕ) → code_check s n ≡ Passed → (y : ℤ) → DecodesCode s n y → Near y (decoded s n) allowed_apart
+  pub decodes_near : (n : ℕ) → code_check s n ≡ Ok tt → (y : ℤ) → DecodesCode s n y → Near y (decoded s n) allowed_apart
   decodes_near n e y p = numbers_near tolerance.plus tolerance.over (lit< tt) (passed s v) (step_of s n) y (decoded s n) p (decoding s v n e)
 
   -- they rise strictly with the code
-  pub decodes_rises : (m n : ℕ) → code_check s m ≡ Passed → code_check s n ≡ Passed → m < n → (x y : ℤ) → DecodesCode s m x → DecodesCode s n y → x <ℤ y
+  pub decodes_rises : (m n : ℕ) → code_check s m ≡ Ok tt → code_check s n ≡ Ok tt → m < n → (x y : ℤ) → DecodesCode s m x → DecodesCode s n y → x <ℤ y
   decodes_rises m n e f h x y p q =
       lt_z-of (at x) (at y)
       (omega (arith, (decodes_near m e x p).high, (decodes_near n f y q).low, sub_dif (raw s (step_of s m)) offset, sub_dif (raw s (step_of s n)) offset, gap_large s v, raw_apart s v (step_of s m) (step_of s n) (step_rises s m n e f h) (code_passed s n f)))
 
   -- and they are at most 2 ^ 33, without their sign
-  pub decodes_small : (n : ℕ) → code_check s n ≡ Passed → (y : ℤ) → DecodesCode s n y → nat_abs y ≤ 2 ^ 33
+  pub decodes_small : (n : ℕ) → code_check s n ≡ Ok tt → (y : ℤ) → DecodesCode s n y → nat_abs y ≤ 2 ^ 33
   decodes_small n e y p =
       let near = decodes_near n e y p in
       omega (arith, abs_is y, one_zero y, near.high, near.low, sub_dif (raw s (step_of s n)) offset, raw_limited s v (step_of s n) (code_passed s n e))
 
   -- the number that is computed among them
-  pub decoded_small : (n : ℕ) → code_check s n ≡ Passed → nat_abs (decoded s n) ≤ 2 ^ 33
+  pub decoded_small : (n : ℕ) → code_check s n ≡ Ok tt → nat_abs (decoded s n) ≤ 2 ^ 33
   decoded_small n e = decodes_small n e (decoded s n) (decoding s v n e)

@@ -1,5 +1,6 @@
 -- Of a scale whose tests are passed: every number that decoding computes fits a word.
 -- Assumes nothing.
+use Rattle.std.specs.Prelude.{Ok}
 use mathlib.Core.List.{List}
 use mathlib.Core.Path.{◌≡◌, subst}
 use Prim.Native.Nat.{ℕ, ◌+◌, ◌*◌, ◌/◌, ◌%◌, ◌^◌, ◌≤◌, ◌<◌}
@@ -9,14 +10,12 @@ use lib.Dec.{lit<}
 use lib.ListN.{get_or, drop}
 use lib.Seq.{get_or-drop}
 use Rattle.rules.specs.Curve.{Curve, log_c4, log_c}
-use Rattle.rules.specs.Exact.{Scale}
+use Rattle.rules.specs.Exact.{Scale, scale_of}
 use Rattle.rules.specs.declared.Setting.{Setting}
-use Rattle.rules.specs.declared.Check.TheVariants.{Passed}
 use Rattle.rules.specs.Setting.{last_of, step_of, curve_of, code_check, Valid}
 use Rattle.rules.proofs.Codes.{code_passed, last_small}
 use Rattle.decode.specs.declared.decoder.Decoder.{Decoder}
 use Rattle.decode.specs.Ready.{Ready}
-use Rattle.rules.specs.Exact.{scale_of}
 use Rattle.curve_table.specs.Table.{table_of}
 use Rattle.decode.specs.Decoded.{product, Fits, decoder_of, first_of, toe_of, over_of, decoded_by, decoded}
 use Rattle.decode.proofs.Tests.{Source, Tested, HasToe, below_at, bias}
@@ -68,7 +67,7 @@ fits s v i h =
     }
 
 -- ---- with what is kept of a setting
-pub ready_fits : {s : Setting} {d : Decoder} {t : List ℕ} → Ready s d t → (n : ℕ) → code_check s n ≡ Passed → Fits d t (step_of s n)
+pub ready_fits : {s : Setting} {d : Decoder} {t : List ℕ} → Ready s d t → (n : ℕ) → code_check s n ≡ Ok tt → Fits d t (step_of s n)
 ready_fits {s} r n e = rw (r.decoder, r.table) (fits s r.valid (step_of s n) (code_passed s n e))
 
 pub ready_number : {s : Setting} {d : Decoder} {t : List ℕ} → Ready s d t → (n : ℕ) → decoded_by d t (step_of s n) ≡ decoded s n

@@ -1,5 +1,6 @@
 -- The number of the last step is at most 2 ^ 33, so a decoded number may be encoded again: it passes the check of a scene number.
 -- Assumes nothing.
+use Rattle.std.specs.Prelude.{Ok}
 use mathlib.Core.Bool.{Bool, true, false}
 use mathlib.Core.Path.{◌≡◌, refl, subst}
 use Prim.Native.Nat.{ℕ, ◌^◌, ◌≤◌}
@@ -10,7 +11,6 @@ use lib.Dec.{T, ltb, leb, leb→le}
 use lib.IntN.{nat_abs, sub_ℕ}
 use Rattle.whole.proofs.Reflect.{abs_is, one_zero, sub_dif}
 use Rattle.rules.specs.declared.Setting.{Setting}
-use Rattle.rules.specs.declared.Check.TheVariants.{Passed}
 use Rattle.rules.specs.Setting.{last_of, step_of, codes_of, code_check, Valid}
 use Rattle.rules.specs.Encoding.{scene_check}
 use Rattle.rules.proofs.Settings.{for_settings, for_valid}
@@ -42,5 +42,5 @@ raw_limited s v i h = go (ltb i (last_of s)) refl
 within : (u : ℕ) → u ≤ 2 ^ 33 → nat_abs (sub_ℕ u offset) ≤ 2 ^ 40
 within u h = omega (arith, sub_dif u offset, abs_is (sub_ℕ u offset), one_zero (sub_ℕ u offset))
 
-pub decoded_passes : (s : Setting) → Valid s → (n : ℕ) → code_check s n ≡ Passed → scene_check (decoded s n) ≡ Passed
+pub decoded_passes : (s : Setting) → Valid s → (n : ℕ) → code_check s n ≡ Ok tt → scene_check (decoded s n) ≡ Ok tt
 decoded_passes s v n e = scene_passes (decoded s n) (within (raw s (step_of s n)) (raw_limited s v (step_of s n) (code_passed s n e)))

@@ -6,8 +6,7 @@ use Prim.Native.Nat.{ℕ, ◌*◌, ◌/◌}
 use native.Mathlib.Nat.{mul-div_cancel_left}
 use lib.Dec.{lit<}
 use lib.IntN.{ℤ}
-use Rattle.rules.specs.declared.Check.{Check}
-use Rattle.rules.specs.Refusal.{then}
+use Rattle.rules.specs.Refusal.{Check, then}
 use Rattle.rules.specs.Result.{single}
 use Rattle.rules.specs.Setting.{step_of}
 use Rattle.rules.specs.Exact.{Scale}

@@ -1,6 +1,7 @@
 -- DEMAND 2, decoding, for every valid setting and each of its codes: the decoded number is what the rules ask, and the numbers rise strictly
 -- with the code.
 -- Assumes nothing.
+use Rattle.std.specs.Prelude.{Ok}
 use mathlib.Core.Path.{◌≡◌, subst}
 use Prim.Native.Nat.{ℕ, zero, suc, ◌+◌, ◌-◌, ◌*◌, ◌≤◌, ◌<◌}
 use native.Mathlib.Omega.{arith}
@@ -9,7 +10,6 @@ use lib.IntN.{sub_ℕ}
 use lib.Signed.{◌<ℤ◌}
 use Rattle.whole.proofs.Reflect.{at, lt_z-of, sub_dif}
 use Rattle.rules.specs.declared.Setting.{Setting}
-use Rattle.rules.specs.declared.Check.TheVariants.{Passed}
 use Rattle.rules.specs.Setting.{last_of, step_of, curve_of, code_check, Valid}
 use Rattle.rules.specs.Exact.{scale_of}
 use Rattle.rules.specs.Decoding.{tolerance, Decodes, DecodesCode}
@@ -29,7 +29,7 @@ pub decoding_at : (s : Setting) → Valid s → (i : ℕ) → i ≤ last_of s �
 decoding_at s v i h =
     within (curve_of s) (last_of s) (gap_of s) (table_of s) (source_of s) (passed s v) tolerance.plus tolerance.over (lit< tt) (room (passed s v)) i h
 
-pub decoding : (s : Setting) → Valid s → (n : ℕ) → code_check s n ≡ Passed → DecodesCode s n (decoded s n)
+pub decoding : (s : Setting) → Valid s → (n : ℕ) → code_check s n ≡ Ok tt → DecodesCode s n (decoded s n)
 decoding s v n e = decoding_at s v (step_of s n) (code_passed s n e)
 
 -- ---- the numbers of two steps are apart
@@ -65,7 +65,7 @@ module _ (s : Setting) (v : Valid s) where
       above g a b p h = omega arith
 
   -- "For each setting the numbers rise strictly with the code."
-  pub decoded_rises : (m n : ℕ) → code_check s m ≡ Passed → code_check s n ≡ Passed → m < n → decoded s m <ℤ decoded s n
+  pub decoded_rises : (m n : ℕ) → code_check s m ≡ Ok tt → code_check s n ≡ Ok tt → m < n → decoded s m <ℤ decoded s n
   decoded_rises m n p q h =
       less_offset (raw s (step_of s m)) (raw s (step_of s n)) offset (raw_rises (step_of s m) (step_of s n) (step_rises s m n p q h) (code_passed s n q))
     where

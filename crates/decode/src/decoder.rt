@@ -1,20 +1,18 @@
-// Decoding with what is kept of a setting: a decoder and a table.
+// Decoding by a decoder, four numbers of a setting, and a table.
 ghost use Rattle.std.specs.Prelude.{◌≡◌, ◌+◌, ◌-◌, ◌*◌, ◌/◌, ◌^◌, ◌≤◌, ◌<◌};
-ghost use Rattle.rules.specs.declared.Check.TheVariants.{Passed};
 ghost use Rattle.rules.specs.Curve.{log_c, log_c4};
-ghost use Rattle.rules.specs.Setting.{code_check, Valid};
+ghost use Rattle.rules.specs.Setting.{Valid};
 ghost use Rattle.rules.specs.Exact.{scale_of};
 ghost use Rattle.curves.specs.LogC.{constants_of};
 ghost use Rattle.curves.specs.LogC4.{IsLogC4};
 ghost use Rattle.decode.specs.Constants.{Small};
-ghost use Rattle.decode.specs.Decoded.{product, raw_by, decoded_by, decoded, decoder_of, Fits};
-ghost use Rattle.decode.specs.Ready.{Ready};
+ghost use Rattle.decode.specs.Decoded.{product, raw_by, decoded_by, decoder_of, Fits};
 
 use curves::log_c::LogC;
 use curves::log_c2::LogC2;
 use curves::log_c3::LogC3;
 use curves::log_c4::LogC4;
-use rules::{Code, CurveName, Scene, Setting, Step};
+use rules::{CurveName, Scene, Setting, Step};
 
 // A number is computed with 2^20 added, so that none is below 0. Twice that and 1: the offset and a half, in halves.
 const OFFSET: i64 = 1 << 20;
@@ -92,7 +90,7 @@ fn toe_divisor(e: u64, last: u64) -> u64
 }
 
 impl Decoder {
-    // of no curve
+    // of no curve (no Option: `decoder_of` has one for every scale, and no valid setting comes here)
     pub const NONE: Decoder = Decoder {
         first: 0,
         bias: 0,
@@ -159,19 +157,10 @@ impl Decoder {
     }
 
     // The scene number of a step.
-    fn number(self, t: &[u64; 128], i: Step) -> Scene
+    pub fn number(self, t: &[u64; 128], i: Step) -> Scene
         requires { Fits self t.now i.0 }
         ensures { result.0 ≡ decoded_by self t.now i.0 }
     {
         Scene(self.raw(t, i) as i64 - OFFSET)
     }
-}
-
-// The scene number of a code that passes its check.
-pub fn scene(s: Setting, d: Decoder, t: &[u64; 128], n: Code) -> Scene
-    requires ready { Ready s d t.now }
-    requires n_value { code_check s n.0 ≡ Passed }
-    ensures { result.0 ≡ decoded s n.0 }
-{
-    d.number(t, setting_codes::step_of(s, n))
 }

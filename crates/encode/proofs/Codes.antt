@@ -1,12 +1,12 @@
 -- Of a valid setting: its numbers may be searched, and what lies between the midpoints of a step has that step, and its code.
 -- Assumes nothing.
+use Rattle.std.specs.Prelude.{Ok}
 use mathlib.Core.Path.{◌≡◌, sym, ap, ◌∙◌}
 use Prim.Native.Nat.{ℕ, ◌^◌, ◌≤◌}
 use native.Mathlib.Omega.{arith}
 use lib.IntN.{ℤ}
 use Rattle.whole.specs.Parts.{up, dn}
 use Rattle.whole.proofs.Reflect.{abs_is}
-use Rattle.rules.specs.declared.Check.TheVariants.{Passed}
 use Rattle.rules.specs.declared.Setting.{Setting}
 use Rattle.rules.specs.Setting.{last_of, code_at, Valid}
 use Rattle.rules.specs.Exact.{scale_of}
@@ -24,7 +24,7 @@ use Rattle.nearest_code.specs.Search.{Rising}
 use Rattle.encode.proofs.Midpoints.{Within, within_nearest}
 
 -- a scene number that passes
-pub scene_passed : (x : ℤ) → scene_check x ≡ Passed → (up x ≤ 2 ^ 40) × (dn x ≤ 2 ^ 40)
+pub scene_passed : (x : ℤ) → scene_check x ≡ Ok tt → (up x ≤ 2 ^ 40) × (dn x ≤ 2 ^ 40)
 scene_passed x e = (omega (arith, abs_is x, scene_small x e), omega (arith, abs_is x, scene_small x e))
 
 -- the number of a step, by its code

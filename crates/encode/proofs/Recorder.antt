@@ -1,12 +1,11 @@
 -- 02, item 5: AT CURVE 4, WIDTH 16, "encoding writes the 12-bit answer times 16".
 -- Assumes nothing.
+use Rattle.std.specs.Prelude.{Err, Ok}
 use mathlib.Core.List.{[], ◌∷◌, map}
 use mathlib.Core.Path.{◌≡◌, refl, sym, ap, ◌∙◌}
 use Prim.Native.Nat.{ℕ, ◌*◌}
 use lib.IntN.{ℤ}
-use Rattle.rules.specs.declared.Check.{Check}
-use Rattle.rules.specs.declared.Check.TheVariants.{Passed, Refused}
-use Rattle.rules.specs.Refusal.{then}
+use Rattle.rules.specs.Refusal.{Check, then}
 use Rattle.rules.specs.Result.{Result, single}
 use Rattle.rules.specs.Setting.{setting_check}
 use Rattle.rules.specs.Encoding.{number_at, scene_check}
@@ -35,5 +34,5 @@ module _ (ei : ℕ) where
   encode_times_sixteen x = rw (same_setting_check ei, encoded_times_sixteen x) (go (then (setting_check (twelve_bits ei)) (scene_check x)) (encoded (twelve_bits ei) x))
     where
       go : (c : Check) (n : ℕ) → single c (16 * n ∷ []) ≡ times_sixteen (single c (n ∷ []))
-      go Passed n = refl
-      go (Refused why) n = refl
+      go (Ok tt) n = refl
+      go (Err why) n = refl

@@ -1,5 +1,6 @@
 -- DEMAND 2, encoding, for every valid setting.
 -- Assumes nothing.
+use Rattle.std.specs.Prelude.{Ok}
 use mathlib.Core.Path.{◌≡◌, sym, ◌∙◌, subst}
 use Prim.Native.Nat.{ℕ, ◌+◌, ◌-◌, ◌*◌, ◌≤◌, ◌<◌}
 use native.Mathlib.Nat.{le_of_lt}
@@ -10,7 +11,6 @@ use Rattle.whole.specs.Parts.{up, dn}
 use Rattle.whole.proofs.Reflect.{at, le_n-of, sub_dif}
 use Rattle.whole.proofs.Near.{Near}
 use Rattle.rules.specs.declared.Setting.{Setting}
-use Rattle.rules.specs.declared.Check.TheVariants.{Passed}
 use Rattle.rules.specs.Fraction.{ratio, integer, ◌*ℚ◌, AtMost, AtLeast}
 use Rattle.rules.specs.Setting.{last_of, code_at, step_of, curve_of, code_check, Valid}
 use Rattle.rules.specs.Exact.{scale_of, VersusExact}
@@ -38,7 +38,7 @@ pub nearest_only : (s : Setting) (x : ℤ) (i : ℕ) → IsNearest (number_at de
 nearest_only s x i n = closest.nearest_only (number_at decoded s) x (last_of s) i (encoded_step s x) n (encoded_nearest s x)
 
 -- the code is one of the setting
-pub encoded_passes : (s : Setting) (x : ℤ) → code_check s (encoded s x) ≡ Passed
+pub encoded_passes : (s : Setting) (x : ℤ) → code_check s (encoded s x) ≡ Ok tt
 encoded_passes s x = code_passes s (encoded_step s x) (encoded_nearest s x).in_range
 
 module _ (s : Setting) (v : Valid s) where
@@ -52,11 +52,11 @@ module _ (s : Setting) (v : Valid s) where
       sym (code_is s v x (last_of s) (last_within (raw s) (last_of s) (raw_rises s v) x (omega (arith, le_n-of (at (decoded_at s (last_of s))) (at x) h, sub_dif (raw s (last_of s)) offset))))
 
   -- a decoded number is encoded to its code
-  pub encode_decoded : (n : ℕ) → code_check s n ≡ Passed → encoded s (decoded s n) ≡ n
+  pub encode_decoded : (n : ℕ) → code_check s n ≡ Ok tt → encoded s (decoded s n) ≡ n
   encode_decoded n e = sym (code_is s v (decoded s n) (step_of s n) (own_within (raw s) (last_of s) (raw_rises s v) (step_of s n) (code_passed s n e))) ∙ code_of_step s n e
 
   -- and so is every number that is nearer to it than half the gap
-  pub encode_near : (b : ℕ) → 2 * b < gap_of s → (x : ℤ) (n : ℕ) → code_check s n ≡ Passed → Near x (decoded s n) b → encoded s x ≡ n
+  pub encode_near : (b : ℕ) → 2 * b < gap_of s → (x : ℤ) (n : ℕ) → code_check s n ≡ Ok tt → Near x (decoded s n) b → encoded s x ≡ n
   encode_near b p x n e i =
       sym (code_is s v x (step_of s n) (near_within (gap_of s) b p (raw s) (last_of s) (raw_apart s v) x (step_of s n) (code_passed s n e) i)) ∙ code_of_step s n e
 

@@ -1,13 +1,12 @@
 -- DECODED FLOAT PIXELS, for every setting and pixel.
 -- Assumes nothing.
+use Rattle.std.specs.Prelude.{Err, Ok}
 use mathlib.Core.Path.{◌≡◌, refl}
 use Prim.Native.Nat.{ℕ}
 use Rattle.rules.specs.Calls.{ExactBy}
-use Rattle.rules.specs.declared.Check.{Check}
-use Rattle.rules.specs.declared.Check.TheVariants.{Passed, Refused}
-use Rattle.rules.specs.declared.Pixel.{Pixel}
+use Rattle.rules.specs.Refusal.{Check, then}
+use Rattle.rules.specs.Triples.{Pixel}
 use Rattle.rules.specs.declared.Setting.{Setting}
-use Rattle.rules.specs.Refusal.{then}
 use Rattle.rules.specs.Result.{done, single}
 use Rattle.rules.specs.Setting.{setting_check, code_check, Valid}
 use Rattle.rules.specs.Float.{IsFloat, float_of}
@@ -19,7 +18,7 @@ use Rattle.float_decode.proofs.Channels.{is_pixel, decoded_fits}
 use Rattle.rules.specs.Pixels.{IsPixel, codes_check}
 
 -- "A scene number v is the float v / 16,777,216, exactly; zero gives plus zero": of every code of a valid setting
-pub decoded_exact : (s : Setting) → Valid s → (n : ℕ) → code_check s n ≡ Passed → IsFloat (decoded s n) (float_of (decoded s n))
+pub decoded_exact : (s : Setting) → Valid s → (n : ℕ) → code_check s n ≡ Ok tt → IsFloat (decoded s n) (float_of (decoded s n))
 decoded_exact s v n e = float_exact (decoded s n) (decoded_fits s v n e)
 
 -- so of every answer
@@ -28,11 +27,11 @@ unfolding decode_pixel_result
 result_exact s p = go (then (setting_check s) (codes_check s p)) refl
   where
     go : (c : Check) → then (setting_check s) (codes_check s p) ≡ c → Exact s p (single c (floats (float_pixel s p))).values
-    go Passed e =
+    go (Ok tt) e =
         let b = both (setting_check s) (codes_check s p) e in
         let i = is_pixel s p b.1 in
         ExactBy.three (decoded_exact s b.0 p.red.0 i.red) (decoded_exact s b.0 p.green.0 i.green) (decoded_exact s b.0 p.blue.0 i.blue)
-    go (Refused r) e = ExactBy.none
+    go (Err r) e = ExactBy.none
 
 -- a pixel of a valid setting is decoded to the floats of its numbers
 pub pixel_decodes : (s : Setting) → Valid s → (p : Pixel) → IsPixel s p → decode_pixel_result s p ≡ done (floats (float_pixel s p))

@@ -1,30 +1,18 @@
 -- What encoding one float pixel gives.
 -- Assumes nothing.
 use Rattle.std.specs.Prelude.{ℕ}
-use Rattle.rules.specs.declared.Check.{Check}
-use Rattle.rules.specs.declared.Pixel.{Pixel}
+use Rattle.rules.specs.Refusal.{OrRefusal}
+use Rattle.rules.specs.Triples.{Pixel}
 use Rattle.rules.specs.declared.Setting.{Setting}
-use Rattle.rules.specs.Result.{Result, done, refused_by}
-use Rattle.rules.specs.Calls.{floats_check, encode_floats_by}
-use Rattle.rules.specs.Float.{units_of}
+use Rattle.rules.specs.Result.{Result, answered}
+use Rattle.rules.specs.Calls.{encode_floats_by}
 use Rattle.decode.specs.Decoded.{decoded}
-use Rattle.encode.specs.Encoded.{encoded}
-use Rattle.float_decode.specs.declared.FloatPixel.{FloatPixel}
-use Rattle.float_encode.specs.declared.FloatEncoding.{FloatEncoding}
-use Rattle.rules.specs.Pixels.{pixel, codes}
+use Rattle.float_decode.specs.Answer.{FloatPixel}
+use Rattle.rules.specs.Pixels.{codes}
 
--- "red, green and blue (each channel's checks before the next channel)"
-abbrev pub pixel_check : FloatPixel → Check
-pixel_check f = floats_check f.red f.green f.blue
-
--- "In the other direction a float is .. taken to the nearest unit (a half going up), then encoded."
-abbrev pub code_pixel : Setting → FloatPixel → Pixel
-code_pixel s f = pixel (encoded s (units_of f.red)) (encoded s (units_of f.green)) (encoded s (units_of f.blue))
-
--- the number and the values of each case of the answer: the codes of the pixel
-abbrev pub float_encoding_result : FloatEncoding → Result ℕ
-float_encoding_result (FloatEncoding.Pixel p) = done (codes p)
-float_encoding_result (FloatEncoding.Refused number) = refused_by number 0
+-- the number and the values of an answer: the codes of the pixel
+abbrev pub float_encoding_result : OrRefusal Pixel → Result ℕ
+float_encoding_result = answered codes
 
 -- the codes, or the refusal of the first check that fails: 3, 4, 5, then 8 and 9 for red, green and blue
 unfoldable pub encode_pixel_result : Setting → FloatPixel → Result ℕ

@@ -1,6 +1,7 @@
 -- A float by its sign, exponent and fraction bits: its value, and how it is read.
 -- Assumes nothing.
-use mathlib.Core.Bool.{Bool, true, false, not, cond}
+use Rattle.std.specs.Prelude.{Err, Ok}
+use mathlib.Core.Bool.{Bool, true, false, cond}
 use mathlib.Core.Path.{◌≡◌, refl, sym, ap, ◌∙◌, subst}
 use Prim.Native.Nat.{ℕ, zero, suc, ◌+◌, ◌-◌, ◌*◌, ◌/◌, ◌%◌, ◌^◌, ◌≤◌, ◌<◌}
 use native.Mathlib.Nat.{add_comm, mul-one, mul-pos, mul-le-mul, mul-le-mul_right, lt_of_lt_of_le, lt_of_le_of_lt}
@@ -9,15 +10,13 @@ use lib.Dec.{T, eqb, eqb→eq, leb, leb→le, le→leb, not_T, lit<}
 use lib.Bits.{bit_and, and_mask}
 use lib.IntN.{pos}
 use lib.Pow.{pow-add, pow_pos, pow_mono, field}
-use lib.Ieee.{Float, nan, inf, fin, up, down, binary64, fits, of_bits, of_fields, to_bits, odd, is_nan, ne}
+use lib.Ieee.{Float, nan, inf, fin, up, down, binary64, fits, of_bits, of_fields, to_bits, odd, is_nan}
 use lib.Ieee.Fits.{eq→eqb}
 use lib.Ieee.Exact.{HasValue, odd_sign}
 use lib.Ieee.Bits.{cond_no, of_bits-to_bits, to_bits-lt}
-use lib.Ieee.Compare.{differs_from_itself}
 use Rattle.rules.specs.declared.Refusal.TheVariants.{FloatNotFinite, FloatOutOfRange}
 use Rattle.rules.specs.Fraction.{Versus}
 use Rattle.rules.specs.Float.{signed, value_of, value_of_bits, float_check}
-use Rattle.float_unit.specs.declared.Reading.{Reading}
 use Rattle.float_unit.specs.Reading.{read_answer}
 use Rattle.float_unit.proofs.Fractions.{read_at, read_at_lem, read_same, same_test, read_outside, read_small}
 
@@ -56,18 +55,18 @@ value_of_bits_lem s (suc x) t h = value_is (of_fields binary64 s (suc x) t) s ((
 read_normal : (s : Bool) (x t : ℕ) → suc x < 2047 → read_answer (of_fields binary64 s (suc x) t) ≡ read_at s ((2 ^ 52 + t) * 2 ^ x) (2 ^ 1074)
 read_normal s x t h = read_at_lem (of_fields binary64 s (suc x) t) s ((2 ^ 52 + t) * 2 ^ x) (2 ^ 1074) (pow_pos 1074) (normal s x t h)
 
-not_finite : (s b : Bool) → read_answer (cond b (inf s) nan) ≡ Reading.Refused FloatNotFinite
+not_finite : (s b : Bool) → read_answer (cond b (inf s) nan) ≡ Err FloatNotFinite
 unfolding read_answer float_check
 not_finite s true = refl
 not_finite s false = refl
 
 -- the exponent bits are all ones: infinite or not a number
-pub read_ones : (s : Bool) (x t : ℕ) → x ≡ 2047 → read_answer (of_fields binary64 s x t) ≡ Reading.Refused FloatNotFinite
+pub read_ones : (s : Bool) (x t : ℕ) → x ≡ 2047 → read_answer (of_fields binary64 s x t) ≡ Err FloatNotFinite
 unfolding of_fields
 read_ones s x t e = ap (λ (y : ℕ). read_answer (of_fields binary64 s y t)) e ∙ not_finite s (eqb t 0)
 
 -- below 2^-26: less than half a unit
-pub read_low : (s : Bool) (x t : ℕ) → x < 997 → t < 2 ^ 52 → read_answer (of_fields binary64 s x t) ≡ Reading.Scene (record { 0 = pos 0 })
+pub read_low : (s : Bool) (x t : ℕ) → x < 997 → t < 2 ^ 52 → read_answer (of_fields binary64 s x t) ≡ Ok (record { 0 = pos 0 })
 read_low s zero t h l =
     let d : t ≤ 4503599627370496 = omega arith in
     read_at_lem (of_fields binary64 s zero t) s t (2 ^ 1074) (pow_pos 1074) (subnormal s t)
@@ -80,7 +79,7 @@ read_low s (suc x) t h l =
     ∙ read_small s ((2 ^ 52 + t) * 2 ^ x) (2 ^ 1074) (lt_of_le_of_lt (mul-le-mul_right 33554432 (mul-le-mul d p)) (lit< tt))
 
 -- 2^17 and above
-pub read_high : (s : Bool) (x t : ℕ) → 1039 < x → x < 2047 → read_answer (of_fields binary64 s x t) ≡ Reading.Refused FloatOutOfRange
+pub read_high : (s : Bool) (x t : ℕ) → 1039 < x → x < 2047 → read_answer (of_fields binary64 s x t) ≡ Err FloatOutOfRange
 read_high s zero t h l = absurd (omega arith)
 read_high s (suc x) t h l =
     let d : 2 ^ 52 ≤ 2 ^ 52 + t = omega arith in
@@ -89,7 +88,7 @@ read_high s (suc x) t h l =
     ∙ read_outside s ((2 ^ 52 + t) * 2 ^ x) (2 ^ 1074) (lt_of_lt_of_le (lit< tt) (mul-le-mul d p))
 
 -- above 2^16
-pub read_edge : (s : Bool) (x t : ℕ) → x ≡ 1039 → 0 < t → read_answer (of_fields binary64 s x t) ≡ Reading.Refused FloatOutOfRange
+pub read_edge : (s : Bool) (x t : ℕ) → x ≡ 1039 → 0 < t → read_answer (of_fields binary64 s x t) ≡ Err FloatOutOfRange
 read_edge s x t e h =
     let d : 4503599627370497 ≤ 2 ^ 52 + t = omega arith in
     ap (λ (y : ℕ). read_answer (of_fields binary64 s y t)) e
@@ -120,15 +119,11 @@ pub a_sign : (s x t : ℕ) → s ≡ 1 → read_answer (of_fields binary64 (eqb 
 a_sign s x t e = ap (λ (n : ℕ). read_answer (of_fields binary64 (eqb n 1) x t)) e
 
 -- ---- a float is its three parts
-pub not_nan : (x : Float) → ne x x ≡ false → T (not (is_nan x))
-unfolding ne is_nan
-not_nan nan e = absurd (subst T e tt)
-not_nan (inf s) e = tt
-not_nan (fin s m d) e = tt
-
-pub read_nan : (x : Float) → ne x x ≡ true → read_answer x ≡ Reading.Refused FloatNotFinite
-unfolding read_answer float_check
-read_nan x e = ap read_answer (differs_from_itself x (subst T (sym e) tt))
+pub read_nan : (x : Float) → is_nan x ≡ true → read_answer x ≡ Err FloatNotFinite
+unfolding read_answer float_check is_nan
+read_nan nan e = refl
+read_nan (inf s) e = absurd (subst T (sym e) tt)
+read_nan (fin s m d) e = absurd (subst T (sym e) tt)
 
 pub bits_lt : (x : Float) → T (fits binary64 x) → to_bits binary64 x < 18446744073709551616
 bits_lt x f = to_bits-lt binary64 x f

@@ -1,5 +1,7 @@
 -- The reading of a float depends on its value alone: of the float n / d, or minus it, it is `read_at`.
 -- Assumes nothing.
+use Rattle.std.specs.Prelude.{Err, Ok}
+use Rattle.rules.specs.declared.Scene.{Scene}
 use mathlib.Core.Bool.{Bool, true, false}
 use mathlib.Core.Path.{◌≡◌, refl, sym, ap, ◌∙◌}
 use Prim.Native.Nat.{ℕ, ◌+◌, ◌-◌, ◌*◌, ◌/◌, ◌%◌, ◌^◌, ◌≤◌, ◌<◌}
@@ -17,15 +19,14 @@ use Rattle.rules.specs.Choice.{choose}
 use Rattle.rules.specs.Fraction.{whole, ◌*ℚ◌, nearest}
 use Rattle.rules.specs.Float.{signed, in_range, value_of, float_check, units_of}
 use Rattle.rules.proofs.Nearest.{nearest_is, nearest_same}
-use Rattle.float_unit.specs.declared.Reading.{Reading}
+use Rattle.rules.specs.Refusal.{OrRefusal, refuse_unless}
 use Rattle.float_unit.specs.Reading.{units_after, read_answer}
-use Rattle.rules.specs.Refusal.{refuse_unless}
 
 -- the nearest unit of n / d, or of minus it
 abbrev pub units_at : Bool → (n d : ℕ) → ℤ
 units_at s n d = nearest (signed s n d *ℚ whole (2 ^ 24))
 
-abbrev pub read_at : Bool → (n d : ℕ) → Reading
+abbrev pub read_at : Bool → (n d : ℕ) → OrRefusal Scene
 read_at s n d = units_after (refuse_unless (in_range (signed s n d)) FloatOutOfRange) (record { 0 = units_at s n d })
 
 -- ---- the range
@@ -92,14 +93,14 @@ read_at_lem (inf t) s n d p v = elim v [ ]
 read_at_lem (fin t m e) s n d p v = read_same t (m * up e) (down e) n d (down_pos e) p v.1 ∙ ap (λ (b : Bool). read_at b n d) v.0
 
 -- ---- what `read_at` is
-pub read_outside : (s : Bool) (n d : ℕ) → 65536 * d < n → read_at s n d ≡ Reading.Refused FloatOutOfRange
+pub read_outside : (s : Bool) (n d : ℕ) → 65536 * d < n → read_at s n d ≡ Err FloatOutOfRange
 read_outside s n d h = rw (range_is s n d, lt-leb n (65536 * d) h)
 
-pub read_inside : (s : Bool) (n d : ℕ) (y : ℤ) → n ≤ 65536 * d → units_at s n d ≡ y → read_at s n d ≡ Reading.Scene (record { 0 = y })
-read_inside s n d y h e = rw (range_is s n d, le-leb n (65536 * d) h) (ap (λ (z : ℤ). Reading.Scene (record { 0 = z })) e)
+pub read_inside : (s : Bool) (n d : ℕ) (y : ℤ) → n ≤ 65536 * d → units_at s n d ≡ y → read_at s n d ≡ Ok (record { 0 = y })
+read_inside s n d y h e = rw (range_is s n d, le-leb n (65536 * d) h) (ap (λ (z : ℤ). Ok (record { 0 = z })) e)
 
 -- less than half a unit
-pub read_small : (s : Bool) (n d : ℕ) → n * 33554432 < d → read_at s n d ≡ Reading.Scene (record { 0 = pos 0 })
+pub read_small : (s : Bool) (n d : ℕ) → n * 33554432 < d → read_at s n d ≡ Ok (record { 0 = pos 0 })
 read_small s n d h = read_inside s n d (pos 0) (omega arith) (go s)
   where
     go : (s : Bool) → units_at s n d ≡ pos 0
@@ -107,7 +108,7 @@ read_small s n d h = read_inside s n d (pos 0) (omega arith) (go s)
     go true = nearest_is (signed true n d *ℚ whole (2 ^ 24)) (pos 0) 0 0 refl (omega arith) (omega arith)
 
 -- n / 2h units: a half goes up, so away from 0 above it
-pub read_plus : (n h : ℕ) → 0 < h → n ≤ 2199023255552 * h → read_at false n (16777216 * (2 * h)) ≡ Reading.Scene (record { 0 = pos ((n + h) / (2 * h)) })
+pub read_plus : (n h : ℕ) → 0 < h → n ≤ 2199023255552 * h → read_at false n (16777216 * (2 * h)) ≡ Ok (record { 0 = pos ((n + h) / (2 * h)) })
 read_plus n h p l =
     let k = (n + h) / (2 * h) in
     let r = (n + h) % (2 * h) in
@@ -117,7 +118,7 @@ read_plus n h p l =
     (nearest_is (signed false n (16777216 * (2 * h)) *ℚ whole (2 ^ 24)) (pos k) k 0 refl (omega arith) (omega arith))
 
 -- and towards 0 below it
-pub read_minus : (n h : ℕ) → 0 < h → 0 < n → n ≤ 2199023255552 * h → read_at true n (16777216 * (2 * h)) ≡ Reading.Scene (record { 0 = pos 0 -ℤ pos ((n + h - 1) / (2 * h)) })
+pub read_minus : (n h : ℕ) → 0 < h → 0 < n → n ≤ 2199023255552 * h → read_at true n (16777216 * (2 * h)) ≡ Ok (record { 0 = pos 0 -ℤ pos ((n + h - 1) / (2 * h)) })
 read_minus n h p q l =
     let k = (n + h - 1) / (2 * h) in
     let r = (n + h - 1) % (2 * h) in

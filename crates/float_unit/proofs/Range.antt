@@ -1,5 +1,6 @@
 -- The units of a float in range are at most 2^40, so they may be encoded.
 -- Assumes nothing.
+use Rattle.std.specs.Prelude.{Ok}
 use mathlib.Core.Bool.{Bool, true, false}
 use mathlib.Core.Path.{◌≡◌, refl, sym, subst}
 use Prim.Native.Nat.{ℕ, suc, ◌+◌, ◌*◌, ◌^◌, ◌≤◌, ◌<◌}
@@ -10,7 +11,6 @@ use lib.IntN.{ℤ, pos, negsuc, nat_abs}
 use lib.Ieee.{Float, nan, inf, fin, up, down}
 use lib.Ieee.Fits.{down_pos}
 use Rattle.whole.proofs.Floor.{half_bounds}
-use Rattle.rules.specs.declared.Check.TheVariants.{Passed}
 use Rattle.rules.specs.declared.Refusal.TheVariants.{FloatOutOfRange}
 use Rattle.rules.specs.Fraction.{nearest}
 use Rattle.rules.specs.Encoding.{scene_check}
@@ -36,7 +36,7 @@ units_small : (s : Bool) (n d : ℕ) → 0 < d → n ≤ 65536 * d → nat_abs (
 units_small false n d p h = nearest_small (n * 2 ^ 24 + 0 * 0) (n * 0 + 0 * 2 ^ 24) (d * 1) (2 ^ 40) (omega arith) (omega arith) (omega arith)
 units_small true n d p h = nearest_small (0 * 2 ^ 24 + n * 0) (0 * 0 + n * 2 ^ 24) (d * 1) (2 ^ 40) (omega arith) (omega arith) (omega arith)
 
-pub units_pass : (x : Float) → float_check x ≡ Passed → scene_check (units_of x) ≡ Passed
+pub units_pass : (x : Float) → float_check x ≡ Ok tt → scene_check (units_of x) ≡ Ok tt
 unfolding float_check units_of value_of
 units_pass nan e = refused_never e
 units_pass (inf s) e = refused_never e

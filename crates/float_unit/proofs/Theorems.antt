@@ -1,5 +1,6 @@
 -- ONE FLOAT, for every f64 and every scene number up to 2^40.
 -- Assumes nothing.
+use Rattle.std.specs.Prelude.{Ok}
 use mathlib.Core.Bool.{true, false}
 use mathlib.Core.Path.{◌≡◌, refl, ◌∙◌}
 use Prim.Native.Nat.{suc, ◌^◌, ◌≤◌}
@@ -12,7 +13,6 @@ use lib.Ieee.Fits.{down_pos}
 use Rattle.rules.specs.Fraction.{ratio, whole, integer, ◌+ℚ◌, ◌-ℚ◌, ◌*ℚ◌, Versus, Less, AtMost}
 use Rattle.rules.specs.Float.{signed, value_of, units_of, negative, float_of}
 use Rattle.rules.proofs.Nearest.{nearest_is, nearest_half}
-use Rattle.float_unit.specs.declared.Reading.{Reading}
 use Rattle.float_unit.specs.Reading.{read_answer}
 use Rattle.float_unit.proofs.Scaled.{float_value}
 use Rattle.float_unit.proofs.Fractions.{units_at, read_at_lem, read_inside}
@@ -30,7 +30,7 @@ own_units : (v : ℤ) → units_at (negative v) (nat_abs v) 16777216 ≡ v
 own_units (pos n) = nearest_is (signed false n 16777216 *ℚ whole (2 ^ 24)) (pos n) n 0 refl (omega arith) (omega arith)
 own_units (negsuc n) = nearest_is (signed true (suc n) 16777216 *ℚ whole (2 ^ 24)) (negsuc n) 0 (suc n) (omega arith) (omega arith) (omega arith)
 
-pub own_reading : (v : ℤ) → nat_abs v ≤ 2 ^ 40 → read_answer (float_of v) ≡ Reading.Scene (record { 0 = v })
+pub own_reading : (v : ℤ) → nat_abs v ≤ 2 ^ 40 → read_answer (float_of v) ≡ Ok (record { 0 = v })
 own_reading v h =
     read_at_lem (float_of v) (negative v) (nat_abs v) 16777216 (lit< tt) (float_value v h)
     ∙ read_inside (negative v) (nat_abs v) 16777216 v (omega arith) (own_units v)

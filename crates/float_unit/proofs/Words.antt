@@ -1,5 +1,6 @@
 -- The numbers that the reading of a float computes, for an exponent from 997 to 1039: what they are, and that they fit words.
 -- Assumes nothing.
+use Rattle.std.specs.Prelude.{Ok}
 use mathlib.Core.Bool.{true, false}
 use mathlib.Core.Logic.{◌⊎◌, inl, inr}
 use mathlib.Core.Path.{◌≡◌, sym, ap, ◌∙◌}
@@ -14,7 +15,6 @@ use mir.Syntax.{w64}
 use mir.Val.{SFits}
 use Rattle.whole.proofs.Reflect.{at, sub}
 use Rattle.whole.proofs.Words.{fits_z}
-use Rattle.float_unit.specs.declared.Reading.{Reading}
 use Rattle.float_unit.specs.Reading.{unit_count, read_answer}
 use Rattle.float_unit.proofs.Fractions.{read_plus, read_minus}
 use Rattle.float_unit.proofs.Fields.{read_mid, no_sign, a_sign}
@@ -63,9 +63,9 @@ module _ (x : ℕ) (lo : 997 ≤ x) (up : x ≤ 1039) where
           go (inl (e, z)) = le_trans (le_of_eq (omega arith)) (le_of_eq (ap (λ (y : ℕ). 2199023255552 * 2 ^ (1050 - y)) (sym e)))
           go (inr n) = let p : 2 ^ 12 ≤ 2 ^ (1050 - x) = pow_mono {i = 12} {j = 1050 - x} (omega arith) in omega arith
 
-      pub plus_exit : (s : ℕ) → s ≡ 0 → Reading.Scene (record { 0 = pos (unit_count s x t) }) ≡ read_answer (of_fields binary64 (eqb s 1) x t)
+      pub plus_exit : (s : ℕ) → s ≡ 0 → Ok (record { 0 = pos (unit_count s x t) }) ≡ read_answer (of_fields binary64 (eqb s 1) x t)
       plus_exit s e =
-          ap (λ (n : ℕ). Reading.Scene (record { 0 = pos (n / (2 * 2 ^ (1050 - x))) })) (less_none s (t + 2 ^ 52 + 2 ^ (1050 - x)) e)
+          ap (λ (n : ℕ). Ok (record { 0 = pos (n / (2 * 2 ^ (1050 - x))) })) (less_none s (t + 2 ^ 52 + 2 ^ (1050 - x)) e)
           ∙ sym (read_plus (t + 2 ^ 52) (2 ^ (1050 - x)) (pow_pos (1050 - x)) limited)
           ∙ sym (read_mid false x t lo up)
           ∙ sym (no_sign s x t e)
@@ -73,9 +73,9 @@ module _ (x : ℕ) (lo : 997 ≤ x) (up : x ≤ 1039) where
           less_none : (s n : ℕ) → s ≡ 0 → n - s ≡ n
           less_none s n e = omega arith
 
-      pub minus_exit : (s : ℕ) → s ≡ 1 → Reading.Scene (record { 0 = pos 0 -ℤ pos (unit_count s x t) }) ≡ read_answer (of_fields binary64 (eqb s 1) x t)
+      pub minus_exit : (s : ℕ) → s ≡ 1 → Ok (record { 0 = pos 0 -ℤ pos (unit_count s x t) }) ≡ read_answer (of_fields binary64 (eqb s 1) x t)
       minus_exit s e =
-          ap (λ (n : ℕ). Reading.Scene (record { 0 = pos 0 -ℤ pos ((t + 2 ^ 52 + 2 ^ (1050 - x) - n) / (2 * 2 ^ (1050 - x))) })) e
+          ap (λ (n : ℕ). Ok (record { 0 = pos 0 -ℤ pos ((t + 2 ^ 52 + 2 ^ (1050 - x) - n) / (2 * 2 ^ (1050 - x))) })) e
           ∙ sym (read_minus (t + 2 ^ 52) (2 ^ (1050 - x)) (pow_pos (1050 - x)) (omega arith) limited)
           ∙ sym (read_mid true x t lo up)
           ∙ sym (a_sign s x t e)

@@ -10,13 +10,6 @@ ghost use Rattle.float_unit.specs.Reading.{unit_count, read_answer};
 
 use rules::{Refusal, Scene};
 
-// What reading one float answers.
-#[derive(Clone, Copy)]
-pub enum Reading {
-    Scene(Scene),
-    Refused(Refusal),
-}
-
 // A scene number as a float, in units of 2^-24: the cast and the quotient lose nothing.
 pub fn float_of(y: Scene) -> f64
     requires { nat_abs y.0 ≤ 2 ^ 40 }
@@ -38,40 +31,38 @@ fn size(sign: u64, exponent: u64, fraction: u64) -> u64
 }
 
 // A float by its three parts. 65,536 has the exponent 1039 and the fraction 0; below the exponent 997 a float is less than half a unit.
-fn join(sign: u64, exponent: u64, fraction: u64) -> Reading
+fn join(sign: u64, exponent: u64, fraction: u64) -> Result<Scene, Refusal>
     requires { (sign < 2) × (exponent < 2048) × (fraction < 2 ^ 52) }
     ensures { result ≡ read_answer (of_fields binary64 (eqb sign 1) exponent fraction) }
 {
     if exponent == 2047 {
-        return Reading::Refused(Refusal::FloatNotFinite);
+        return Err(Refusal::FloatNotFinite);
     }
     if exponent > 1039 {
-        return Reading::Refused(Refusal::FloatOutOfRange);
+        return Err(Refusal::FloatOutOfRange);
     }
-    if exponent == 1039 {
-        if fraction > 0 {
-            return Reading::Refused(Refusal::FloatOutOfRange);
-        }
+    if exponent == 1039 && fraction > 0 {
+        return Err(Refusal::FloatOutOfRange);
     }
     if exponent < 997 {
-        return Reading::Scene(Scene(0));
+        return Ok(Scene(0));
     }
     let units = size(sign, exponent, fraction) as i64;
     if sign == 0 {
-        Reading::Scene(Scene(units))
+        Ok(Scene(units))
     } else {
-        Reading::Scene(Scene(0 - units))
+        Ok(Scene(-units))
     }
 }
 
 // The nearest unit of a float, or the refusal of the first check that fails: 8, then 9.
-pub fn read(x: f64) -> Reading
+pub fn read(x: f64) -> Result<Scene, Refusal>
     ensures { result ≡ read_answer x }
 {
-    if x != x {
-        Reading::Refused(Refusal::FloatNotFinite)
+    if x.is_nan() {
+        Err(Refusal::FloatNotFinite)
     } else {
-        let bits: u64 = f64::to_bits(x);
+        let bits: u64 = x.to_bits();
         let sign: u64 = bits >> 63;
         let exponent: u64 = (bits >> 52) & 0x7ff;
         let fraction: u64 = bits & 0xf_ffff_ffff_ffff;

@@ -1,12 +1,12 @@
 -- Numbers that pass their check are in reach of the inverse, and what it makes of them is near.
 -- Assumes nothing.
+use Rattle.std.specs.Prelude.{Ok}
 use mathlib.Core.Path.{◌≡◌}
 use Prim.Native.Nat.{ℕ, ◌≤◌}
 use lib.Dec.{lit<}
 use Rattle.whole.proofs.Near.{near_swap, near_more}
-use Rattle.rules.specs.declared.Check.TheVariants.{Passed}
 use Rattle.rules.specs.declared.Setting.{Setting}
-use Rattle.rules.specs.declared.Triple.{Triple}
+use Rattle.rules.specs.Triples.{Triple}
 use Rattle.rules.specs.Matrix.{matrix_of}
 use Rattle.rules.specs.Pixels.{aces_triple}
 use Rattle.rules.specs.Setting.{ValidForAces}
@@ -18,10 +18,10 @@ use Rattle.aces_inverse.specs.Inverse.{candidates}
 use Rattle.aces_inverse.proofs.Inverse.{candidate_encodes, candidates_near}
 use Rattle.graded.specs.Graded.{reached}
 
-pub passed_reach : (a : Triple) → graded_checks a ≡ Passed → InReach a.red.0 a.green.0 a.blue.0
+pub passed_reach : (a : Triple) → graded_checks a ≡ Ok tt → InReach a.red.0 a.green.0 a.blue.0
 passed_reach = all_graded
 
-module _ (s : Setting) (v : ValidForAces s) (a : Triple) (h : graded_checks a ≡ Passed) where
+module _ (s : Setting) (v : ValidForAces s) (a : Triple) (h : graded_checks a ≡ Ok tt) where
   reach : InReach a.red.0 a.green.0 a.blue.0
   reach = passed_reach a h
 

@@ -1,15 +1,13 @@
 -- One graded record: when it passes, what is written for it, and that the graded road gives what the way back gives.
 -- Assumes nothing.
+use Rattle.std.specs.Prelude.{Ok, Option}
 use mathlib.Core.Logic.{◌↔◌}
 use mathlib.Core.Path.{◌≡◌, sym, ap, subst}
 use mathlib.Core.List.{List}
 use Prim.Native.Nat.{ℕ, ◌^◌, ◌<◌}
 use lib.IntN.{ℤ}
-use Rattle.rules.specs.declared.Check.TheVariants.{Passed}
 use Rattle.rules.specs.declared.Distance.TheVariants.{Exact}
-use Rattle.rules.specs.declared.Found.{Found}
-use Rattle.rules.specs.declared.Pixel.{Pixel}
-use Rattle.rules.specs.declared.Scenes.{Scenes}
+use Rattle.rules.specs.Triples.{Pixel, Scenes}
 use Rattle.rules.specs.declared.Setting.{Setting}
 use Rattle.rules.specs.Calls.{EncodesBy}
 use Rattle.rules.specs.Conversions.{channel_checks, pixel_found}
@@ -38,21 +36,21 @@ use Rattle.promise.specs.Words.{number_in}
 use Rattle.graded_strips.specs.Words.{HoldsGraded, Given, GivesScenes, GivesPixel}
 
 -- A RECORD PASSES exactly where its setting is valid and its numbers are within the limits
-pub passes_exactly : (r : List ℕ) → (record_check graded_to_pixel r ≡ Passed) ↔ HoldsGraded r
+pub passes_exactly : (r : List ℕ) → (record_check graded_to_pixel r ≡ Ok tt) ↔ HoldsGraded r
 passes_exactly r = (
   λ e. let p = both (aces_check (setting_of r)) (graded_checks (triple_in r)) e in record { valid = p.0; numbers = all_graded (triple_in r) p.1 },
   λ h. rw (h.valid, graded_all (triple_in r) h.numbers),
 )
 
 -- ---- what is written for a record that passes
-module _ (r : List ℕ) (b : IsBytes r) (h : record_check graded_to_pixel r ≡ Passed) where
+module _ (r : List ℕ) (b : IsBytes r) (h : record_check graded_to_pixel r ≡ Ok tt) where
   abbrev s : Setting
   s = setting_of r
 
   abbrev x : Scenes
   x = candidates (setting_of r) (triple_in r)
 
-  parts : ValidForAces s × (graded_checks (triple_in r) ≡ Passed)
+  parts : ValidForAces s × (graded_checks (triple_in r) ≡ Ok tt)
   parts = both (aces_check s) (graded_checks (triple_in r)) h
 
   near : GradedWithin reached s (triple_in r) x
@@ -108,7 +106,7 @@ module _ (r : List ℕ) (b : IsBytes r) (h : record_check graded_to_pixel r ≡ 
       }
 
   -- which is what encoding the scene record gives
-  pub scenes_encoded : (record_check scene_to_pixel (graded_to_scene.bytes r) ≡ Passed) × (scene_to_pixel.bytes (graded_to_scene.bytes r) ≡ graded_to_pixel.bytes r)
+  pub scenes_encoded : (record_check scene_to_pixel (graded_to_scene.bytes r) ≡ Ok tt) × (scene_to_pixel.bytes (graded_to_scene.bytes r) ≡ graded_to_pixel.bytes r)
   unfolding channel_checks
   scenes_encoded =
       let e = same_numbers in (
@@ -117,11 +115,11 @@ module _ (r : List ℕ) (b : IsBytes r) (h : record_check graded_to_pixel r ≡ 
       )
 
 -- ---- WHERE THE WAY BACK FINDS A PIXEL the graded road gives it
-pub as_way_back : (r : List ℕ) → record_check aces_to_pixel r ≡ Passed → (record_check graded_to_pixel r ≡ Passed) × (graded_to_pixel.bytes r ≡ aces_to_pixel.bytes r)
+pub as_way_back : (r : List ℕ) → record_check aces_to_pixel r ≡ Ok tt → (record_check graded_to_pixel r ≡ Ok tt) × (graded_to_pixel.bytes r ≡ aces_to_pixel.bytes r)
 unfolding pixel_by
 as_way_back r e =
     let s = setting_of r in
     let a = triple_in r in
     let v = both (aces_check s) (found_check (pixel_for exact s a)) e in
     let f = passed_found exact s v.0 (near_enough Exact s v.0) a v.1 in
-    (rw v.0 (graded_all a f.0), ap (λ (q : Found). pixel_record s (pixel_found q)) f.1)
+    (rw v.0 (graded_all a f.0), ap (λ (q : Option Pixel). pixel_record s (pixel_found q)) f.1)

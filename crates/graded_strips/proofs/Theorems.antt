@@ -1,5 +1,6 @@
 -- 02, item 7: GRADED STRIPS, for every strip of bytes, settings mixed.
 -- Assumes nothing.
+use Rattle.std.specs.Prelude.{Ok}
 use mathlib.Core.Logic.{◌↔◌}
 use mathlib.Core.Path.{◌≡◌, sym, ap, ◌∙◌}
 use mathlib.Core.List.{List, [], ◌∷◌, ◌++◌}
@@ -7,7 +8,6 @@ use Prim.Native.Nat.{ℕ, ◌*◌, ◌≤◌, ◌<◌}
 use native.Mathlib.Omega.{arith}
 use lib.Dec.{lit<}
 use lib.ListN.{length, take, drop}
-use Rattle.rules.specs.declared.Answer.TheVariants.{Done}
 use Rattle.rules.specs.Record.{IsBytes, setting_of, code_bytes, number_bytes, pixel_size, numbers_size}
 use Rattle.rules.specs.Result.{done, strip_result}
 use Rattle.rules.specs.Strip.{record_at, answer_of, output_after, result_of, strip_after}
@@ -73,10 +73,10 @@ module _ (aces output : List ℕ) (n : ℕ) (a : AcceptedGraded aces n) where
       room
 
 -- ---- THAT TRIPLE ENCODED: graded to pixel is graded to scene and then scene to pixel, every byte of it
-pub graded_then_encoded : (aces scenes pixels : List ℕ) (n : ℕ) → IsBytes aces → Done n ≡ answer_of graded_to_scene aces scenes → n * pixel_size ≤ length pixels
-    → (Done n ≡ answer_of graded_to_pixel aces pixels)
-    × (Done n ≡ answer_of scene_to_pixel (take (n * numbers_size) (output_after graded_to_scene aces scenes (Done n))) pixels)
-    × (output_after scene_to_pixel (take (n * numbers_size) (output_after graded_to_scene aces scenes (Done n))) pixels (Done n) ≡ output_after graded_to_pixel aces pixels (Done n))
+pub graded_then_encoded : (aces scenes pixels : List ℕ) (n : ℕ) → IsBytes aces → Ok n ≡ answer_of graded_to_scene aces scenes → n * pixel_size ≤ length pixels
+    → (Ok n ≡ answer_of graded_to_pixel aces pixels)
+    × (Ok n ≡ answer_of scene_to_pixel (take (n * numbers_size) (output_after graded_to_scene aces scenes (Ok n))) pixels)
+    × (output_after scene_to_pixel (take (n * numbers_size) (output_after graded_to_scene aces scenes (Ok n))) pixels (Ok n) ≡ output_after graded_to_pixel aces pixels (Ok n))
 unfolding output_after
 graded_then_encoded aces scenes pixels n h e room =
     let w = done_whole graded_to_scene aces scenes n e in

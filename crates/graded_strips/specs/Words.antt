@@ -1,7 +1,7 @@
 -- 02, item 7, of strips: what the graded road takes, and what it writes for each record.
 -- Assumes nothing.
 use Rattle.std.specs.Prelude.{List, ◌≡◌, ℕ, ◌*◌, ◌<◌, length}
-use Rattle.rules.specs.declared.Scenes.{Scenes}
+use Rattle.rules.specs.Triples.{Scenes}
 use Rattle.rules.specs.Calls.{EncodesBy}
 use Rattle.rules.specs.Graded.{WithinLimits, GradedWithin, scene_numbers}
 use Rattle.rules.specs.Pixels.{scenes}

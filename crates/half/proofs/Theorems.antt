@@ -1,5 +1,6 @@
 -- 02, item 6: HALVES, for every half and every number.
 -- Assumes nothing.
+use Rattle.std.specs.Prelude.{Ok}
 use mathlib.Core.Bool.{Bool, true, false}
 use mathlib.Core.Logic.{◌⊎◌, inl, inr, ◌↔◌}
 use mathlib.Core.Path.{◌≡◌, refl, sym, ap, ◌∙◌}
@@ -11,7 +12,6 @@ use lib.Dec.{ltb, ltb→lt}
 use lib.IntN.{ℤ, pos, negsuc}
 use Rattle.whole.specs.Parts.{minus}
 use Rattle.whole.proofs.Tidy.{tidy}
-use Rattle.rules.specs.declared.Check.TheVariants.{Passed}
 use Rattle.rules.specs.declared.Refusal.TheVariants.{FloatNotFinite}
 use Rattle.rules.specs.Choice.{choose}
 use Rattle.rules.specs.Fraction.{Fraction, whole, integer, ◌-ℚ◌, ◌/ℚ◌, Versus}
@@ -52,7 +52,7 @@ unfolding half_units
 both_zeros = (refl, refl)
 
 -- a half passes exactly where it is finite
-pub finite_passes : (h : ℕ) → h < 2 ^ 16 → (half_check h ≡ Passed) ↔ IsFinite h
+pub finite_passes : (h : ℕ) → h < 2 ^ 16 → (half_check h ≡ Ok tt) ↔ IsFinite h
 finite_passes h b = (
   λ p. record { bits = b; exponent = ltb→lt (exponent_of h) ones (passed_only (ltb (exponent_of h) ones) FloatNotFinite p) },
   λ f. rw (lt-ltb (exponent_of h) ones f.exponent),

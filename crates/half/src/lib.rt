@@ -5,7 +5,7 @@
 ghost use Rattle.std.specs.Prelude.{◌≡◌, ◌≤◌, ◌<◌, ◌^◌};
 ghost use Rattle.rules.specs.Half.{exponent_of, size_units, half_units, half_check, half_end, behind_eleven, to_even, half_size, half_of};
 
-use rules::{Aces, Check, Half, Refusal};
+use rules::{Aces, Half, Refusal};
 
 // The exponent of an infinity and of what is not a number: five ones.
 const ONES: u64 = 31;
@@ -29,13 +29,13 @@ fn exponent(h: Half) -> u64
 }
 
 // Refusal 8: a half is an infinity or not a number.
-pub fn check(h: Half) -> Check
+pub fn check(h: Half) -> Result<(), Refusal>
     ensures { result ≡ half_check h.0 }
 {
     if exponent(h) < ONES {
-        Check::Passed
+        Ok(())
     } else {
-        Check::Refused(Refusal::FloatNotFinite)
+        Err(Refusal::FloatNotFinite)
     }
 }
 
@@ -60,7 +60,7 @@ pub fn read(h: Half) -> Aces
     if h.0 < MINUS {
         Aces(units)
     } else {
-        Aces(0 - units)
+        Aces(-units)
     }
 }
 
@@ -69,8 +69,8 @@ fn behind_eleven(n: u64) -> u64
     requires { n ≤ half_end }
     ensures { (result ≡ behind_eleven n) × (result ≤ 29) }
 {
-    let zeros = u64::leading_zeros(n) as u64;
-    if zeros < 53 { 53 - zeros } else { 0 }
+    let zeros = n.leading_zeros() as u64;
+    53u64.saturating_sub(zeros)
 }
 
 // n / 2^k to the nearest whole number, a tie to the even one.
@@ -86,7 +86,7 @@ fn to_even(n: u64, k: u64) -> u64
 fn nearest_size(m: u64) -> u16
     ensures { (result ≡ half_size m) × (result < 2 ^ 15) }
 {
-    let n = if m < END { m } else { END };
+    let n = m.min(END);
     let k = behind_eleven(n);
     (k * FIRST + to_even(n, k)) as u16
 }
@@ -95,7 +95,7 @@ fn nearest_size(m: u64) -> u16
 pub fn write(v: Aces) -> Half
     ensures { result.0 ≡ half_of v.0 }
 {
-    let size = nearest_size(whole::magnitude(v.0));
+    let size = nearest_size(v.0.unsigned_abs());
     if v.0 < 0 {
         Half(MINUS + size)
     } else {

@@ -1,32 +1,25 @@
-// Half records: the check of their halves, what is written for one, and what is written for an ACES record.
+// Half records: the check of their halves, what is written for one, and what is written for an ACES record. (A record is a slice with its length
+// in a clause: `record_at` lends a part whose size the conversion says.)
 
 #![tactic(auto)]
 
-ghost use Rattle.std.specs.Prelude.{◌≡◌, ◌+◌, ◌≤◌, length, take, drop};
-ghost use Rattle.rules.specs.Record.{value, number_bytes, half_bytes, numbers_size, halves_size};
+ghost use Rattle.std.specs.Prelude.{◌≡◌, length};
+ghost use Rattle.rules.specs.Record.{number_bytes, half_bytes, numbers_size, halves_size};
 ghost use Rattle.rules.specs.Half.{half_check};
 ghost use Rattle.rules.specs.Conversions.{channel_checks, each_channel, half_bits, unit_bits};
 
-use records::{BLUE_HALF, GREEN_HALF, SETTING_BYTES};
-use rules::{Check, Half, Setting, Triple};
-
-// The half at a place of the record.
-fn half_in(r: &[u8], at: usize) -> Half
-    requires { at + half_bytes ≤ length r.now }
-    ensures { result.0 ≡ value (take half_bytes (drop at r.now)) }
-{
-    Half(little_endian::u16_at(r, at))
-}
+use rules::{Half, Refusal, Rgb, Setting, Triple};
 
 // The checks of the three halves of a record.
-pub fn check_halves(r: &[u8]) -> Check
+#[tactic(auto, unfolding(rules::specs::Conversions::channel_checks))]
+pub fn check_halves(r: &[u8]) -> Result<(), Refusal>
     requires { length r.now ≡ halves_size }
     ensures { result ≡ channel_checks half_bytes half_check r.now }
 {
-    let red = half::check(half_in(r, SETTING_BYTES));
-    let green = half::check(half_in(r, GREEN_HALF));
-    let blue = half::check(half_in(r, BLUE_HALF));
-    setting::first_refusal(red, setting::first_refusal(green, blue))
+    let h: Rgb<Half> = records::channels_in(r);
+    half::check(h.red)?;
+    half::check(h.green)?;
+    half::check(h.blue)
 }
 
 // What is written for a half record: its setting and the units of its halves.
@@ -35,12 +28,14 @@ pub fn write_units(s: Setting, r: &[u8], out: &mut [u8])
     requires out_len { length out.old ≡ numbers_size }
     ensures { out.new ≡ each_channel half_bytes number_bytes s (unit_bits s) r.now }
 {
+    let h: Rgb<Half> = records::channels_in(r);
+    // (Channel by channel, here and in the other records: the clauses of a closure would be as long as the three lines.)
     let a = Triple {
-        red: half::read(half_in(r, SETTING_BYTES)),
-        green: half::read(half_in(r, GREEN_HALF)),
-        blue: half::read(half_in(r, BLUE_HALF)),
+        red: half::read(h.red),
+        green: half::read(h.green),
+        blue: half::read(h.blue),
     };
-    records::put_aces(out, s, a);
+    records::put(out, s, a);
 }
 
 // What is written for an ACES record: its setting and the nearest halves.
@@ -49,12 +44,11 @@ pub fn write_halves(s: Setting, r: &[u8], out: &mut [u8])
     requires out_len { length out.old ≡ halves_size }
     ensures { out.new ≡ each_channel number_bytes half_bytes s (half_bits s) r.now }
 {
-    let a = records::triple_in(r);
-    records::put_halves(
-        out,
-        s,
-        half::write(a.red),
-        half::write(a.green),
-        half::write(a.blue),
-    );
+    let a: Triple = records::channels_in(r);
+    let h = Rgb {
+        red: half::write(a.red),
+        green: half::write(a.green),
+        blue: half::write(a.blue),
+    };
+    records::put(out, s, h);
 }

@@ -1,5 +1,6 @@
 -- 02, item 6: "Different pixels may share a half record": two that do.
 -- Assumes nothing.
+use Rattle.std.specs.Prelude.{Ok}
 use mathlib.Core.Path.{◌≡◌, refl, ap}
 use mathlib.Core.Bool.{Bool, true}
 use mathlib.Core.List.{List, [], ◌∷◌}
@@ -9,7 +10,6 @@ use lib.Count.{count_leading_zeros}
 use lib.Dec.{T, ltb, ltb→lt, lit<}
 use lib.ListN.{get_or}
 use Rattle.whole.proofs.Tests.{both, both_left, both_right}
-use Rattle.rules.specs.declared.Check.TheVariants.{Passed}
 use Rattle.rules.specs.Half.{half_of}
 use Rattle.rules.specs.Matrix.{aces_number}
 use Rattle.rules.specs.Record.{IsBytes, value, digits, bytes_of, record_of, pixel_in, pixel_size}
@@ -31,7 +31,7 @@ bytes_passed (x ∷ xs) t zero = ltb→lt x 256 (both_left (ltb x 256) (bytes xs
 bytes_passed (x ∷ xs) t (suc i) = bytes_passed xs (both_right (ltb x 256) (bytes xs) t) i
 
 -- ---- such a strip is accepted where its red code passes
-accepted : (red : ℕ) → T (bytes (with_red red)) → code_check pair_setting (pixel_in (with_red red)).red.0 ≡ Passed → Accepted (with_red red) 1
+accepted : (red : ℕ) → T (bytes (with_red red)) → code_check pair_setting (pixel_in (with_red red)).red.0 ≡ Ok tt → Accepted (with_red red) 1
 unfolding record_of bytes_of digits value setting_check aces_check codes_of
 accepted red t e = record { bytes = bytes_passed (with_red red) t; long = refl; each = λ k i. at k i }
   where

@@ -2,20 +2,20 @@
 
 #![tactic(auto)]
 
+ghost use Rattle.std.specs.Prelude.{Err, Ok};
 ghost use Rattle.text.specs.Put.{Room, Put};
-ghost use Rattle.rules.specs.declared.Outcome.TheVariants.{Aces, Refused};
 ghost use Rattle.rules.specs.Lister.{line_of, words, line, tail_line};
 
-use rules::{Outcome, Refusal, Triple};
+use rules::{Refusal, Triple};
 
-const SPACE: u8 = 32;
+const SPACE: u8 = b' ';
 
-const NEWLINE: u8 = 10;
+const NEWLINE: u8 = b'\n';
 
 // `ok` and three ACES numbers, to the end of the line.
 fn put_ok(out: &mut [u8], at: usize, a: Triple) -> usize
-    requires { Room (line_of (words (Aces a))) out.old at }
-    ensures { Put (line_of (words (Aces a))) out.old at out.new result }
+    requires { Room (line_of (words (Ok a))) out.old at }
+    ensures { Put (line_of (words (Ok a))) out.old at out.new result }
 {
     let red = text::put_word(out, at, b"ok ");
     let green = text::put_signed_number(out, red, a.red.0, SPACE);
@@ -25,22 +25,22 @@ fn put_ok(out: &mut [u8], at: usize, a: Triple) -> usize
 
 // `refused` and the refusal's number, to the end of the line.
 fn put_refused(out: &mut [u8], at: usize, why: Refusal) -> usize
-    requires { Room (line_of (words (Refused why))) out.old at }
-    ensures { Put (line_of (words (Refused why))) out.old at out.new result }
+    requires { Room (line_of (words (Err why))) out.old at }
+    ensures { Put (line_of (words (Err why))) out.old at out.new result }
 {
     let then = text::put_word(out, at, b"refused ");
     text::put_number(out, then, setting::refusal_number(why) as u64, NEWLINE)
 }
 
 // The line of a record.
-pub fn put_line(out: &mut [u8], at: usize, index: u64, o: Outcome) -> usize
+pub fn put_line(out: &mut [u8], at: usize, index: u64, o: Result<Triple, Refusal>) -> usize
     requires { Room (line index o) out.old at }
     ensures { Put (line index o) out.old at out.new result }
 {
     let then = text::put_number(out, at, index, SPACE);
     match o {
-        Outcome::Aces(a) => put_ok(out, then, a),
-        Outcome::Refused(why) => put_refused(out, then, why),
+        Ok(a) => put_ok(out, then, a),
+        Err(why) => put_refused(out, then, why),
     }
 }
 

@@ -1,12 +1,12 @@
 -- No record's line is longer than 66 bytes.
 -- Assumes nothing.
+use Rattle.std.specs.Prelude.{Err, Ok}
 use mathlib.Core.Path.{◌≡◌, refl}
 use mathlib.Core.List.{List}
 use Prim.Native.Nat.{ℕ, zero, suc, ◌+◌, ◌*◌, ◌^◌, ◌≤◌, ◌<◌}
 use native.Mathlib.Omega.{arith}
 use lib.ListN.{length, take, drop, length-append}
-use Rattle.rules.specs.declared.Check.{Check}
-use Rattle.rules.specs.declared.Check as check
+use Rattle.rules.specs.Refusal.{Check}
 use Rattle.rules.specs.Record.{code_bytes, setting_of, channel_at, pixel_in}
 use Rattle.rules.specs.Setting.{code_check}
 use Rattle.rules.specs.Strip.{record_check, records}
@@ -24,7 +24,7 @@ use Rattle.rules.specs.Lister.{size, line, after_check, lines_by}
 use Rattle.aces.specs.OfPixel.{pixel_aces}
 
 -- the ACES numbers of a pixel are at most 2 ^ 38
-numbers_small : (r : List ℕ) → record_check pixel_to_aces r ≡ check.Check.Passed
+numbers_small : (r : List ℕ) → record_check pixel_to_aces r ≡ Ok tt
     → InReach (pixel_aces (setting_of r) (pixel_in r)).red.0 (pixel_aces (setting_of r) (pixel_in r)).green.0 (pixel_aces (setting_of r) (pixel_in r)).blue.0
 numbers_small r e =
     let s = setting_of r in
@@ -45,8 +45,8 @@ pub line_long : (k : ℕ) → k < 2 ^ 64 → (r : List ℕ) → length (line k (
 line_long k h r = go (record_check pixel_to_aces r) refl
   where
     go : (x : Check) → record_check pixel_to_aces r ≡ x → length (line k (after_check x (pixel_aces (setting_of r) (pixel_in r)))) ≤ longest
-    go check.Check.Passed e = let g = numbers_small r e in aces_long k h (pixel_aces (setting_of r) (pixel_in r)) g.red g.green g.blue
-    go (check.Check.Refused why) e = refused_long k h why
+    go (Ok tt) e = let g = numbers_small r e in aces_long k h (pixel_aces (setting_of r) (pixel_in r)) g.red g.green g.blue
+    go (Err why) e = refused_long k h why
 
 pub lines_long : (k n : ℕ) (s : List ℕ) → k + n < 2 ^ 64 → length (lines k (records size n s)) ≤ longest * n
 unfolding lines_by records

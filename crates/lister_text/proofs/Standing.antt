@@ -1,9 +1,8 @@
 -- The loop over records: where it stands.
 -- Assumes nothing.
-use mathlib.Core.Path.{◌≡◌, refl, ◌∙◌, subst}
+use mathlib.Core.Path.{◌≡◌, refl, ◌∙◌}
 use mathlib.Core.List.{List, ◌++◌}
 use Prim.Native.Nat.{ℕ, ◌+◌, ◌*◌, ◌^◌, ◌≤◌, ◌<◌}
-use native.Mathlib.Nat.{le_antisymm}
 use native.Mathlib.Omega.{arith}
 use lib.ListN.{length, length-append}
 use Rattle.rules.specs.Strip.{records, record_at}
@@ -48,6 +47,3 @@ module _ (k : ℕ) (input : List ℕ) (n : ℕ) (buffer : List ℕ) (room : long
           long = put_length next_room p ∙ w.long;
           is = rw (lines_more k i input) (put_both (lines k (records size i input)) next both_room w.is p);
         }
-
-  pub stands_end : (i : ℕ) (out : List ℕ) (at : ℕ) → n ≤ i → Stands k input n buffer i out at → Put (lines k (records size n input)) buffer 0 out at
-  stands_end i out at h w = subst (λ (m : ℕ). Put (lines k (records size m input)) buffer 0 out at) (le_antisymm w.upto h) w.is

@@ -1,14 +1,15 @@
 -- What the lister's function writes: all that the rules say it prints, where there is room.
 -- Assumes nothing.
+use Rattle.rules.specs.Triples.{Triple}
 use Rattle.std.specs.Prelude.{Bool, false, List, [], ◌++◌, ◌≡◌, ℕ, ◌+◌, ◌*◌, ◌/◌, ◌^◌, leb, ltb, length, drop}
 use Rattle.rules.specs.Choice.{choose}
-use Rattle.rules.specs.declared.Outcome.{Outcome}
+use Rattle.rules.specs.Refusal.{OrRefusal}
 use Rattle.rules.specs.Lister.{size, outcome_by, lines_by, listed_by}
 use Rattle.decode.specs.Decoded.{decoded}
 use Rattle.lister_line.specs.Line.{longest, longest_tail}
 
 -- the rules' text, with the decoded numbers put in
-abbrev pub outcome_of : List ℕ → Outcome
+abbrev pub outcome_of : List ℕ → OrRefusal Triple
 outcome_of = outcome_by decoded
 
 abbrev pub lines : (k : ℕ) → List (List ℕ) → List ℕ

@@ -1,5 +1,6 @@
 -- The marked checks hold.
 -- Assumes nothing.
+use Rattle.std.specs.Prelude.{Ok, Option}
 use mathlib.Core.Bool.{Bool, true, false}
 use mathlib.Core.Path.{◌≡◌, refl, sym, ap, ◌∙◌, subst}
 use Prim.Native.Nat.{ℕ, ◌^◌, ◌≤◌}
@@ -22,14 +23,12 @@ use Rattle.rules.specs.Exact.{Scale, signal, power_for, VersusPart}
 use Rattle.rules.specs.Decoding.{Decodes, DecodesCode, DecodesPart, tolerance, unit}
 use Rattle.rules.specs.Encoding.{IsNearest, number_at, scene_check}
 use Rattle.rules.specs.Float.{value_of, float_check, units_of}
-use Rattle.rules.specs.declared.Check.TheVariants.{Passed}
 use Rattle.rules.proofs.Codes.{code_passes, code_rises}
 use Rattle.rules.proofs.Values as values
 use Rattle.rules.proofs.Within.{near_within3}
 use Rattle.rules.proofs.Search.{none_found}
 use Rattle.rules.specs.Matrix.{matrix_of, aces_number}
-use Rattle.rules.specs.declared.Pixel.{Pixel}
-use Rattle.rules.specs.declared.Found.{Found}
+use Rattle.rules.specs.Triples.{Pixel}
 use Rattle.rules.specs.Refusal.{number_of_check}
 use Rattle.rules.specs.WayBack.{within3, pixel_by, exact, found_check}
 use Rattle.rules.specs.Strip.{answer_of}
@@ -74,7 +73,7 @@ valid_4 : Valid s4
 unfolding setting_check
 valid_4 = refl
 
-passes_4095 : code_check s4 4095 ≡ Passed
+passes_4095 : code_check s4 4095 ≡ Ok tt
 unfolding codes_of
 passes_4095 = refl
 
@@ -129,7 +128,7 @@ aces_800 : ValidForAces s800
 unfolding setting_check aces_check
 aces_800 = refl
 
-passes_0 : code_check s800 0 ≡ Passed
+passes_0 : code_check s800 0 ≡ Ok tt
 unfolding codes_of
 passes_0 = refl
 
@@ -169,7 +168,7 @@ module _ (number : ℕ → ℤ) (allowed : Allowed s800 number) where
 
   no_pixel : number_of_check (found_check (pixel_by exact (λ s. number) s800 next_triple)) ≡ 10
   unfolding pixel_by
-  no_pixel = ap (λ (f : Found). number_of_check (found_check f)) (none_found 0 number (matrix_of s800) (code_at s800) (last_of s800) next_triple never)
+  no_pixel = ap (λ (f : Option Pixel). number_of_check (found_check f)) (none_found 0 number (matrix_of s800) (code_at s800) (last_of s800) next_triple never)
 
 -- THE LIST
 pub marked : Marked

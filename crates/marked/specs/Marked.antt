@@ -1,15 +1,13 @@
 -- 01, "Marked and unmarked checks": the marked ones, as statements about the rules.
 -- Assumes nothing.
-use Rattle.std.specs.Prelude.{true, false, ◌≡◌, List, ◌↔◌, ℕ, ◌+◌, ◌^◌, ℤ, pos, length}
+use Rattle.std.specs.Prelude.{true, false, ◌≡◌, List, ◌↔◌, ℕ, ◌+◌, ◌^◌, ℤ, pos, length, Ok}
 use Rattle.std.specs.Float.{fin}
 use Rattle.whole.specs.Parts.{minus}
-use Rattle.rules.specs.declared.Answer.TheVariants.{Refused}
-use Rattle.rules.specs.declared.Check.TheVariants.{Passed}
+use Rattle.rules.specs.Refusal.{refused_at, then, number_of, number_of_check}
 use Rattle.rules.specs.declared.Refusal.TheVariants.{PartialRecord}
 use Rattle.rules.specs.declared.Setting.{Setting}
-use Rattle.rules.specs.declared.Triple.{Triple}
+use Rattle.rules.specs.Triples.{Triple}
 use Rattle.rules.specs.Fraction.{ratio, whole}
-use Rattle.rules.specs.Refusal.{then, number_of, number_of_check}
 use Rattle.rules.specs.Curve.{in_toe}
 use Rattle.rules.specs.Setting.{setting_check, aces_check, code_check, curve_of, last_of, step_of, Valid}
 use Rattle.rules.specs.Exact.{signal, scale_of, VersusExact}
@@ -27,7 +25,7 @@ setting curve width ei = record { curve = curve; width = width; ei = ei }
 
 -- numbers for the codes of a setting: any that the rules allow, since they leave the power part some freedom
 abbrev pub Allowed : Setting → (number : ℕ → ℤ) → Type 0
-Allowed s number = (n : ℕ) → code_check s n ≡ Passed → DecodesCode s n (number n)
+Allowed s number = (n : ℕ) → code_check s n ≡ Ok tt → DecodesCode s n (number n)
 
 -- what code 4095 of curve 4 is at width 12
 abbrev pub number4095 : ℕ
@@ -61,20 +59,20 @@ pub record Marked : Type 0 where
   -- "Curve 3, width 12, EI 2000: 5."
   pub ei_2000 : number_of_check (setting_check (setting 3 12 2000)) ≡ 5
   -- "Curve 3, width 10, EI 800: 1023 passes, 1024 gives 6."
-  pub code_1023 : then (setting_check (setting 3 10 800)) (code_check (setting 3 10 800) 1023) ≡ Passed
+  pub code_1023 : then (setting_check (setting 3 10 800)) (code_check (setting 3 10 800) 1023) ≡ Ok tt
   pub code_1024 : number_of_check (then (setting_check (setting 3 10 800)) (code_check (setting 3 10 800) 1024)) ≡ 6
   -- "Eleven bytes of pixel records: 1."
   pub partial_record : number_of PartialRecord ≡ 1
   pub eleven_bytes : (number : Setting → ℕ → ℤ) (input output : List ℕ) → length input ≡ 11
-      → (answer_of (pixel_to_scene number) input output ≡ Refused PartialRecord 0) × (answer_of (pixel_to_aces number) input output ≡ Refused PartialRecord 0)
+      → (answer_of (pixel_to_scene number) input output ≡ refused_at PartialRecord 0) × (answer_of (pixel_to_aces number) input output ≡ refused_at PartialRecord 0)
   -- "Scene 2^40 gives top, one more gives 7." (of every setting)
   pub scene_limit : (s : Setting) → Valid s → (number : ℕ → ℤ) → Allowed s number
       → (i : ℕ) → IsNearest (number_at (λ s. number) s) (last_of s) (pos limit) i → i ≡ last_of s
-  pub scene_limit_passes : scene_check (pos limit) ≡ Passed
+  pub scene_limit_passes : scene_check (pos limit) ≡ Ok tt
   pub scene_past_limit : number_of_check (scene_check (pos (limit + 1))) ≡ 7
   -- "ACES -290085, -290085, -290084 under curve 3, width 12, EI 800: 10."
   pub no_pixel : (number : ℕ → ℤ) → Allowed (setting 3 12 800) number
       → number_of_check (then (aces_check (setting 3 12 800)) (found_check (pixel_by exact (λ s. number) (setting 3 12 800) next_triple))) ≡ 10
   -- "Float 2^-25 is unit 1, -2^-25 is 0."
-  pub float_half : (float_check (fin false 1 (minus 25)) ≡ Passed) × (units_of (fin false 1 (minus 25)) ≡ pos 1)
-  pub float_minus_half : (float_check (fin true 1 (minus 25)) ≡ Passed) × (units_of (fin true 1 (minus 25)) ≡ pos 0)
+  pub float_half : (float_check (fin false 1 (minus 25)) ≡ Ok tt) × (units_of (fin false 1 (minus 25)) ≡ pos 1)
+  pub float_minus_half : (float_check (fin true 1 (minus 25)) ≡ Ok tt) × (units_of (fin true 1 (minus 25)) ≡ pos 0)

@@ -2,7 +2,6 @@
 // (The remainders change no number that occurs. They show that products fit words.)
 ghost use Rattle.std.specs.Prelude.{◌^◌, ◌≤◌, ◌<◌};
 
-use super::least;
 use super::log_line::LogLine;
 use decode::decoder::Decoder;
 use rules::Setting;
@@ -58,9 +57,9 @@ fn log2(z: u64) -> u64
     (63 - zeros) as u64 * 65536 + m + bend(m)
 }
 
-// The step nearest to the signal of z.
+// The step nearest to the signal of z. (`last` is a u64 with its bound in a clause, since it is multiplied as one.)
 fn on_line(k: LogLine, last: u64, z: u64) -> u64
-    requires { (k.slope < 2 ^ 29) × (last < 2 ^ 16) }
+    requires { last < 2 ^ 16 }
 {
     let rise = k.slope * log2(z);
     let start = k.start;
@@ -72,7 +71,7 @@ fn on_line(k: LogLine, last: u64, z: u64) -> u64
 
 // The step of a number above the toe: a step's number is z and the bias, over 2^27 and rounded down.
 fn above_toe(k: LogLine, d: Decoder, last: u64, y: u64) -> u64
-    requires { (k.slope < 2 ^ 29) × (last < 2 ^ 16) × (y < 2 ^ 33) }
+    requires { (last < 2 ^ 16) × (y < 2 ^ 33) }
 {
     let sum = UNIT * y + UNIT / 2;
     let bias = d.bias;
@@ -115,5 +114,5 @@ pub fn guess(s: Setting, d: Decoder, last: u64, y: u64) -> u64
     requires { last < 2 ^ 16 }
     ensures { result ≤ last }
 {
-    least(on_curve(s, d, last, y), last)
+    on_curve(s, d, last, y).min(last)
 }

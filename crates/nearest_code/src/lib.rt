@@ -14,14 +14,9 @@ mod log_line;
 use decode::decoder::Decoder;
 use rules::{Setting, Step};
 
-fn least(a: u64, b: u64) -> u64
-    ensures { result ≡ min a b }
-{
-    if a < b { a } else { b }
-}
-
 // The step whose number is nearest to y. Between the steps low and high, whose numbers are low_number and high_number, any step may be
-// tried next: here one a stride from the end that moved last, where strides grow fourfold, or else the one half way.
+// tried next: here one a stride from the end that moved last, where strides grow fourfold, or else the one half way. (No partition_point: the steps
+// are no slice, and which is tried next goes by the end that moved.)
 fn search(d: Decoder, t: &[u64; 128], last: u64, gap: u64, y: u64, first: u64) -> u64
     requires rising { Rising d t.now last gap }
     requires y_bound { y < 2 ^ 62 }
@@ -32,19 +27,19 @@ fn search(d: Decoder, t: &[u64; 128], last: u64, gap: u64, y: u64, first: u64) -
     let mut low_number: u64 = 0;
     let mut high_number: u64 = 0;
     let mut stride: u64 = 1;
-    let mut middle = least(first % 65536 + 1, last);
+    let mut middle = (first % 65536 + 1).min(last);
     while low + 1 < high {
         let reach = stride;
-        stride = least(4 * stride, 65536);
+        stride = (4 * stride).min(65536);
         let number = d.raw(t, Step(middle));
         if number < y {
             low = middle;
             low_number = number;
-            middle = low + least(reach, (high - low) / 2);
+            middle = low + reach.min((high - low) / 2);
         } else {
             high = middle;
             high_number = number;
-            middle = high - least(reach, (high - low) / 2);
+            middle = high - reach.min((high - low) / 2);
         }
     }
     if last < high {
@@ -60,6 +55,7 @@ fn search(d: Decoder, t: &[u64; 128], last: u64, gap: u64, y: u64, first: u64) -
 }
 
 // The same, where the step guessed is tried first: what is nearer to its number than half the curve's gap has that step.
+// (It takes the parts and no Prepared: it asks only that the numbers rise.)
 pub fn find(s: Setting, d: Decoder, t: &[u64; 128], last: Step, y: u64) -> Step
     requires rising { Rising d t.now last.0 (gap_of (named s.curve)) }
     requires y_bound { y < 2 ^ 62 }

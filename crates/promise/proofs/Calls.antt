@@ -7,7 +7,7 @@ use mathlib.Core.List.{List, [], ◌∷◌}
 use Prim.Native.Nat.{ℕ, ◌*◌, ◌≤◌, ◌<◌}
 use lib.ListN.{length}
 use Rattle.rules.specs.Record.{pixel_size, numbers_size}
-use Rattle.rules.specs.declared.Answer.{Answer}
+use Rattle.rules.specs.Refusal.{Answer}
 use Rattle.rules.specs.Result.{done, strip_result}
 use Rattle.rules.specs.Strip.{Conversion, record_at, answer_of, output_after, Converts}
 use Rattle.record_conversion.specs.Conversions.{pixel_to_scene, scene_to_pixel}

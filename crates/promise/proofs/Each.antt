@@ -1,11 +1,11 @@
 -- Any conversion: a strip whose records pass is converted, and what is written for each record is R to it.
 -- Assumes nothing.
+use Rattle.std.specs.Prelude.{Ok}
 use mathlib.Core.Path.{◌≡◌, sym, ap, ◌∙◌, subst}
 use mathlib.Core.List.{List}
 use Prim.Native.Nat.{ℕ, ◌*◌, ◌≤◌, ◌<◌}
 use lib.ListN.{length, drop}
-use Rattle.rules.specs.declared.Answer.{Answer}
-use Rattle.rules.specs.declared.Check.TheVariants.{Passed}
+use Rattle.rules.specs.Refusal.{Answer}
 use Rattle.rules.specs.Strip.{Conversion, record_check, record_at, answer_of, output_after}
 use Rattle.rules.proofs.Results.{done_answer}
 use Rattle.strip.proofs.Exactly.{converted_exactly}
@@ -14,7 +14,7 @@ use Rattle.promise.proofs.Strips.{written_at}
 
 pub each_converted : (c : Conversion) → ((r : List ℕ) → length (c.bytes r) ≡ c.to) → 0 < c.from → (R : (r out : List ℕ) → Type 0) (input output : List ℕ) (n : ℕ)
     → length input ≡ n * c.from
-    → ((k : ℕ) → k < n → record_check c (record_at c.from k input) ≡ Passed)
+    → ((k : ℕ) → k < n → record_check c (record_at c.from k input) ≡ Ok tt)
     → ((k : ℕ) → k < n → R (record_at c.from k input) (c.bytes (record_at c.from k input)))
     → n * c.to ≤ length output
     → ConvertedEach c R input output n

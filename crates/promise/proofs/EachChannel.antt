@@ -1,13 +1,13 @@
 -- Any conversion channel by channel: a strip whose records pass is converted, and each channel that is written is R to the channel that it is
 -- written for.
 -- Assumes nothing.
+use Rattle.std.specs.Prelude.{Ok}
 use mathlib.Core.Path.{◌≡◌, sym, subst}
 use mathlib.Core.List.{List}
 use Prim.Native.Nat.{ℕ, ◌*◌, ◌^◌, ◌≤◌, ◌<◌}
 use native.Mathlib.Nat.{le_of_eq}
 use lib.ListN.{length}
-use Rattle.rules.specs.declared.Check.{Check}
-use Rattle.rules.specs.declared.Check.TheVariants.{Passed}
+use Rattle.rules.specs.Refusal.{Check}
 use Rattle.rules.specs.declared.Setting.{Setting}
 use Rattle.rules.specs.Record.{IsBytes, size_of, setting_of, channel_at}
 use Rattle.rules.specs.Strip.{record_check, record_at}
@@ -22,8 +22,8 @@ use Rattle.rules.specs.Conversions.{channelwise}
 
 -- what is written for a channel that passes fits, and is R to the channel
 module _ (setting : Setting → Check) (a b : ℕ) (check : Setting → ℕ → Check) (one : Setting → ℕ → ℕ) (R : Setting → (from to : ℕ) → Type 0)
-    (fits : (s : Setting) → setting s ≡ Passed → (u : ℕ) → u < 256 ^ a → check s u ≡ Passed → one s u < 256 ^ b)
-    (right : (s : Setting) → setting s ≡ Passed → (u : ℕ) → u < 256 ^ a → check s u ≡ Passed → R s u (one s u)) where
+    (fits : (s : Setting) → setting s ≡ Ok tt → (u : ℕ) → u < 256 ^ a → check s u ≡ Ok tt → one s u < 256 ^ b)
+    (right : (s : Setting) → setting s ≡ Ok tt → (u : ℕ) → u < 256 ^ a → check s u ≡ Ok tt → R s u (one s u)) where
   record_each : (r : List ℕ) → Good (channelwise setting a b check one) r → EachChannel a b R r ((channelwise setting a b check one).bytes r)
   record_each r g =
       record {
@@ -35,7 +35,7 @@ module _ (setting : Setting → Check) (a b : ℕ) (check : Setting → ℕ → 
 
   -- a strip of n records that pass
   module _ (input output : List ℕ) (n : ℕ) (h : IsBytes input) (l : length input ≡ n * size_of a)
-      (passes : (k : ℕ) → k < n → record_check (channelwise setting a b check one) (record_at (size_of a) k input) ≡ Passed) where
+      (passes : (k : ℕ) → k < n → record_check (channelwise setting a b check one) (record_at (size_of a) k input) ≡ Ok tt) where
     good : (k : ℕ) → k < n → Good (channelwise setting a b check one) (record_at (size_of a) k input)
     good k i =
         record {

@@ -7,7 +7,7 @@ use mathlib.Core.List.{List}
 use Prim.Native.Nat.{ℕ}
 use lib.IntN.{ℤ}
 use Rattle.rules.specs.declared.Setting.{Setting}
-use Rattle.rules.specs.declared.Triple.{Triple}
+use Rattle.rules.specs.Triples.{Triple}
 use Rattle.rules.specs.Setting.{code_at, last_of, ValidForAces}
 use Rattle.rules.specs.Matrix.{matrix_of}
 use Rattle.rules.specs.Record.{setting_of, pixel_in, aces_record, pixel_size}

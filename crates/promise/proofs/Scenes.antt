@@ -2,12 +2,12 @@
 -- number of the same channel's code, and for an accepted scene strip each code written is the
 -- nearest one, within two thirds of a code where it is not clipped. For every strip of bytes, settings mixed.
 -- Assumes nothing.
+use Rattle.std.specs.Prelude.{Ok}
 use mathlib.Core.Path.{◌≡◌, sym, subst}
 use mathlib.Core.List.{List}
 use Prim.Native.Nat.{ℕ, ◌*◌, ◌^◌, ◌≤◌, ◌<◌}
 use lib.Dec.{lit<}
 use lib.ListN.{length}
-use Rattle.rules.specs.declared.Check.TheVariants.{Passed}
 use Rattle.rules.specs.declared.Setting.{Setting}
 use Rattle.rules.specs.Setting.{setting_check, code_check, Valid}
 use Rattle.rules.specs.Decoding.{DecodesCode}
@@ -27,7 +27,7 @@ use Rattle.rules.specs.Conversions.{channel_checks, number_check}
 use Rattle.promise.proofs.EachChannel.{strip_each}
 
 -- ---- decoding
-scene_decoded : (s : Setting) → Valid s → (code : ℕ) → code_check s code ≡ Passed → IsDecoded s code (scene_bits s code)
+scene_decoded : (s : Setting) → Valid s → (code : ℕ) → code_check s code ≡ Ok tt → IsDecoded s code (scene_bits s code)
 scene_decoded s v code e =
     record { near = subst (DecodesCode s code) (sym (scene_read s v code e)) (decoding s v code e); same = scene_read s v code e }
 
@@ -39,14 +39,14 @@ pixels_decoded pixels output n a room =
     (λ k i. holds_passes setting_check (record_at pixel_size k pixels) (a.each k i)) (lit< tt) room
 
 -- ---- encoding
-module _ (s : Setting) (v : Valid s) (bits : ℕ) (e : number_check s bits ≡ Passed) where
+module _ (s : Setting) (v : Valid s) (bits : ℕ) (e : number_check s bits ≡ Ok tt) where
   code_fits : code_bits s bits < 256 ^ code_bytes
   code_fits = code_small s (encoded_step s (of_bits number_bytes bits)) (encoded_nearest s (of_bits number_bytes bits)).in_range
 
   code_encoded : IsEncoded s bits (code_bits s bits)
   code_encoded = code_encodes s v (of_bits number_bytes bits)
 
-scene_passes : (r : List ℕ) → HoldsScene r → record_check scene_to_pixel r ≡ Passed
+scene_passes : (r : List ℕ) → HoldsScene r → record_check scene_to_pixel r ≡ Ok tt
 unfolding channel_checks
 scene_passes r h = rw (h.valid, h.numbers 0 (lit< tt), h.numbers 1 (lit< tt), h.numbers 2 (lit< tt))
 

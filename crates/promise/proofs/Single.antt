@@ -1,25 +1,21 @@
 -- One record of a strip: an ACES record passes the checks of a way back exactly where a pixel gives it; and pixel to ACES and back returns a
 -- record, where its numbers were moved by no more than the distance of the way back.
 -- Assumes nothing.
+use Rattle.std.specs.Prelude.{Err, Ok, Option, Some}
 use mathlib.Core.Bool.{true}
 use mathlib.Core.Path.{◌≡◌, refl, ap, sym, ◌∙◌}
 use mathlib.Core.List.{List}
 use Prim.Native.Nat.{ℕ, ◌+◌, ◌*◌, ◌^◌}
 use native.Mathlib.Omega.{arith}
 use lib.ListN.{length, drop}
-use Rattle.rules.specs.declared.Check.{Check}
-use Rattle.rules.specs.declared.Check.TheVariants.{Passed, Refused}
+use Rattle.rules.specs.Refusal.{Check, number_of, number_of_check}
 use Rattle.rules.specs.declared.Distance.{Distance}
 use Rattle.rules.specs.declared.Distance.TheVariants.{Exact}
-use Rattle.rules.specs.declared.Found.{Found}
-use Rattle.rules.specs.declared.Found as found
-use Rattle.rules.specs.declared.Pixel.{Pixel}
+use Rattle.rules.specs.Triples.{Pixel, Triple}
 use Rattle.rules.specs.declared.Refusal.{Refusal}
 use Rattle.rules.specs.declared.Setting.{Setting}
-use Rattle.rules.specs.declared.Triple.{Triple}
 use Rattle.rules.specs.Conversions.{channel_checks, pixel_found}
 use Rattle.rules.specs.Pixels.{IsPixel, Small3}
-use Rattle.rules.specs.Refusal.{number_of, number_of_check}
 use Rattle.rules.specs.Setting.{code_check, ValidForAces}
 use Rattle.rules.specs.Record.{IsBytes, to_bits, of_bits, code_bytes, setting_of, channel_at, record_of, pixel_in, pixel_record, triple_in, aces_record, numbers_size, setting_bytes, number_bytes}
 use Rattle.rules.specs.Strip.{record_check}
@@ -83,29 +79,29 @@ numbers_read s a v p i = let w = within3_equal a (pixel_aces s p) in (λ e. w.1 
 
 -- ---- a record, judged by a way back
 module _ (k : Distance) (G : List ℕ → Pixel → Type 0) (r : List ℕ) (reads : Reads k (setting_of r) (triple_in r) (G r)) where
-  abbrev f : Found
+  abbrev f : Option Pixel
   f = pixel_for (distance_of k) (setting_of r) (triple_in r)
 
   here : Judged (setting_of r) (G r) (record_check (back_within (distance_of k)) r) (pixel_for (distance_of k) (setting_of r) (triple_in r))
   here = judged k (setting_of r) (triple_in r) (G r) reads
 
   -- THE RECORD PASSES: it comes back as the only pixel that gives it
-  pub passed_only : record_check (back_within (distance_of k)) r ≡ Passed → OnlyPixel G r ((back_within (distance_of k)).bytes r)
+  pub passed_only : record_check (back_within (distance_of k)) r ≡ Ok tt → OnlyPixel G r ((back_within (distance_of k)).bytes r)
   passed_only e = go (record_check (back_within (distance_of k)) r) f here e
     where
-      go : (x : Check) (f : Found) → Judged (setting_of r) (G r) x f → x ≡ Passed → OnlyPixel G r (pixel_record (setting_of r) (pixel_found f))
+      go : (x : Check) (f : Option Pixel) → Judged (setting_of r) (G r) x f → x ≡ Ok tt → OnlyPixel G r (pixel_record (setting_of r) (pixel_found f))
       go _ _ (Judged.returned p o) e = record { pixel = p; is_only = o; holds = refl }
       go _ _ (Judged.refused why f w n) e = refused_never e
 
   -- so a record without a pixel does not
-  pub without_refused : Without G r → record_check (back_within (distance_of k)) r ≡ Passed → ⊥
+  pub without_refused : Without G r → record_check (back_within (distance_of k)) r ≡ Ok tt → ⊥
   without_refused w e = not_both w (passed_only e).is_only
 
   -- and what is refused is without one
-  pub refused_without : (why : Refusal) → record_check (back_within (distance_of k)) r ≡ Refused why → Without G r × (number_of why ≡ refusal_of (setting_of r))
+  pub refused_without : (why : Refusal) → record_check (back_within (distance_of k)) r ≡ Err why → Without G r × (number_of why ≡ refusal_of (setting_of r))
   refused_without why e = go (record_check (back_within (distance_of k)) r) f here e
     where
-      go : (x : Check) (f : Found) → Judged (setting_of r) (G r) x f → x ≡ Refused why → Without G r × (number_of why ≡ refusal_of (setting_of r))
+      go : (x : Check) (f : Option Pixel) → Judged (setting_of r) (G r) x f → x ≡ Err why → Without G r × (number_of why ≡ refusal_of (setting_of r))
       go _ _ (Judged.returned p o) e = refused_never (sym e)
       go _ _ (Judged.refused w f without n) e = (without, ap number_of_check (sym e) ∙ n)
 
@@ -114,7 +110,7 @@ module _ (r : List ℕ) (g : Good pixel_to_aces r) where
   abbrev setting : Setting
   setting = setting_of r
 
-  checked : ValidForAces setting × (channel_checks code_bytes (code_check setting) r ≡ Passed)
+  checked : ValidForAces setting × (channel_checks code_bytes (code_check setting) r ≡ Ok tt)
   checked = both (pixel_to_aces.setting setting) (pixel_to_aces.inner r) g.passes
 
   pixel : IsPixel setting (pixel_in r)
@@ -131,12 +127,12 @@ module _ (r : List ℕ) (g : Good pixel_to_aces r) where
 
   -- an ACES record of the same setting, whose numbers are at most the distance from those that are written
   pub taken_back : (k : Distance) (a : List ℕ) → setting_of a ≡ setting → within3 (distance_of k) (triple_in a) (triple_in (pixel_to_aces.bytes r)) ≡ true
-      → (record_check (back_within (distance_of k)) a ≡ Passed) × ((back_within (distance_of k)).bytes a ≡ r)
+      → (record_check (back_within (distance_of k)) a ≡ Ok tt) × ((back_within (distance_of k)).bytes a ≡ r)
   taken_back k a e w =
       let n : within3 (distance_of k) (triple_in a) (pixel_aces setting (pixel_in r)) ≡ true = ap (within3 (distance_of k) (triple_in a)) (sym same_triple) ∙ w in
-      let finds : pixel_for (distance_of k) (setting_of a) (triple_in a) ≡ found.Found.Pixel (pixel_in r) = rw e (given_found k setting checked.0 (triple_in a) (pixel_in r) pixel n) in
+      let finds : pixel_for (distance_of k) (setting_of a) (triple_in a) ≡ Some (pixel_in r) = rw e (given_found k setting checked.0 (triple_in a) (pixel_in r) pixel n) in
       (rw (finds, e, checked.0), rw (finds, e) (write_read code_bytes r g.bytes g.long))
 
   -- and so what is written
-  pub back_itself : (k : Distance) → (record_check (back_within (distance_of k)) (pixel_to_aces.bytes r) ≡ Passed) × ((back_within (distance_of k)).bytes (pixel_to_aces.bytes r) ≡ r)
+  pub back_itself : (k : Distance) → (record_check (back_within (distance_of k)) (pixel_to_aces.bytes r) ≡ Ok tt) × ((back_within (distance_of k)).bytes (pixel_to_aces.bytes r) ≡ r)
   back_itself k = taken_back k (pixel_to_aces.bytes r) same_setting (near_within3 (distance_of k) _ _ (triple_more (distance_of k) (within.same_triple refl)))

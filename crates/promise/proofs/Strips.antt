@@ -1,5 +1,6 @@
 -- Strips: where a record is written, an accepted pixel strip is converted whole, and its ACES strip.
 -- Assumes nothing.
+use Rattle.std.specs.Prelude.{Ok}
 use mathlib.Core.Path.{◌≡◌, refl, ap, ap₂, sym, ◌∙◌}
 use mathlib.Core.List.{List, [], ◌++◌, append_assoc, append-nil}
 use Prim.Native.Nat.{ℕ, zero, suc, ◌*◌, ◌/◌, ◌≤◌, ◌<◌}
@@ -8,11 +9,8 @@ use native.Mathlib.Omega.{arith}
 use lib.Dec.{lit<}
 use lib.ListN.{length, take, drop}
 use lib.Seq.{take_at, drop_at}
-use Rattle.rules.specs.declared.Answer.TheVariants.{Done}
-use Rattle.rules.specs.declared.Check.{Check}
-use Rattle.rules.specs.declared.Check.TheVariants.{Passed}
+use Rattle.rules.specs.Refusal.{Check, then}
 use Rattle.rules.specs.declared.Setting.{Setting}
-use Rattle.rules.specs.Refusal.{then}
 use Rattle.rules.specs.Setting.{aces_check, code_check}
 use Rattle.rules.specs.Record.{IsBytes, setting_of, pixel_size, numbers_size, code_bytes, number_bytes}
 use Rattle.rules.specs.Strip.{record_check, records, record_at, written}
@@ -57,7 +55,7 @@ pub aces_long : (r : List ℕ) → length (pixel_to_aces.bytes r) ≡ numbers_si
 aces_long r = length_record number_bytes (setting_of r) _
 
 -- ---- an accepted strip
-pub holds_passes : (check : Setting → Check) (r : List ℕ) → HoldsPixelBy (λ s. check s ≡ Passed) r → then (check (setting_of r)) (channel_checks code_bytes (code_check (setting_of r)) r) ≡ Passed
+pub holds_passes : (check : Setting → Check) (r : List ℕ) → HoldsPixelBy (λ s. check s ≡ Ok tt) r → then (check (setting_of r)) (channel_checks code_bytes (code_check (setting_of r)) r) ≡ Ok tt
 unfolding channel_checks
 holds_passes check r h = rw (h.valid, h.pixel.red, h.pixel.green, h.pixel.blue)
 
@@ -76,7 +74,7 @@ module _ (pixels : List ℕ) (n : ℕ) (a : Accepted pixels n) where
       record {
         long = a.long;
         room = room;
-        passes = sym (all_done (record_check pixel_to_aces) pixel_size n pixels 0 (λ k h. (accepted_good k h).passes) ∙ ap Done (zero-add n));
+        passes = sym (all_done (record_check pixel_to_aces) pixel_size n pixels 0 (λ k h. (accepted_good k h).passes) ∙ ap Ok (zero-add n));
       }
 
   -- it has n records

@@ -1,6 +1,7 @@
 -- STRIPS, BY EITHER WAY BACK: an ACES strip whose numbers were moved by no more than its distance comes back; and any strip of ACES records is
 -- refused exactly where a record is without a pixel, and else comes back as the only pixels that give its records.
 -- Assumes nothing.
+use Rattle.std.specs.Prelude.{Err, Ok}
 use mathlib.Core.Bool.{true}
 use mathlib.Core.Path.{◌≡◌, refl, ap, sym, ◌∙◌, subst}
 use mathlib.Core.Logic.{◌↔◌}
@@ -10,12 +11,10 @@ use native.Mathlib.Nat.{le_of_eq, zero-add}
 use native.Mathlib.Omega.{arith}
 use lib.Dec.{lit<}
 use lib.ListN.{length, drop}
-use Rattle.rules.specs.declared.Answer.{Answer}
-use Rattle.rules.specs.declared.Answer.TheVariants.{Done, Refused}
-use Rattle.rules.specs.declared.Check.{Check}
-use Rattle.rules.specs.declared.Check as check
+use Rattle.rules.specs.Refusal.{Answer, Check}
+use Rattle.rules.specs.Refusal as refusal
 use Rattle.rules.specs.declared.Distance.{Distance}
-use Rattle.rules.specs.declared.Pixel.{Pixel}
+use Rattle.rules.specs.Triples.{Pixel}
 use Rattle.rules.specs.declared.Refusal.{Refusal}
 use Rattle.rules.specs.Record.{IsBytes, setting_of, triple_in, code_bytes, pixel_size, numbers_size}
 use Rattle.rules.specs.Result.{Result, done, refused_by, strip_result}
@@ -43,7 +42,7 @@ module _ (k : Distance) (pixels aces output : List ℕ) (n : ℕ) (a : Accepted 
   abbrev back : Conversion
   back = back_within (distance_of k)
 
-  record_back : (i : ℕ) → i < n → (record_check back (record_at numbers_size i aces) ≡ check.Check.Passed) × (back.bytes (record_at numbers_size i aces) ≡ record_at pixel_size i pixels)
+  record_back : (i : ℕ) → i < n → (record_check back (record_at numbers_size i aces) ≡ Ok tt) × (back.bytes (record_at numbers_size i aces) ≡ record_at pixel_size i pixels)
   record_back i h =
       let g = accepted_good pixels n a i h in
       let w = aces_strip_at pixels n a i h in
@@ -82,19 +81,19 @@ module _ (k : Distance) (G : List ℕ → Pixel → Type 0) (reads : (r : List �
   scanned : answer_of c aces output ≡ scan_of c n aces
   scanned = whole_answer c aces output n (lit< tt) l room
 
-  converted_passes : result_of c aces output ≡ done (n ∷ []) → (i : ℕ) → i < n → record_check c (record_at numbers_size i aces) ≡ check.Check.Passed
+  converted_passes : result_of c aces output ≡ done (n ∷ []) → (i : ℕ) → i < n → record_check c (record_at numbers_size i aces) ≡ Ok tt
   converted_passes = (converted_exactly c (lit< tt) aces output n l room).0
 
   -- a record that is not without a pixel passes
-  with_pixel : (i : ℕ) → i < n → (Without G (record_at numbers_size i aces) → ⊥) → record_check c (record_at numbers_size i aces) ≡ check.Check.Passed
+  with_pixel : (i : ℕ) → i < n → (Without G (record_at numbers_size i aces) → ⊥) → record_check c (record_at numbers_size i aces) ≡ Ok tt
   with_pixel i j never = go (record_check c (at i)) refl
     where
-      go : (x : Check) → record_check (back_within (distance_of k)) (record_at numbers_size i aces) ≡ x → x ≡ check.Check.Passed
-      go check.Check.Passed e = refl
-      go (check.Check.Refused why) e = absurd (never (refused_without k G (at i) (read i j) why e).0)
+      go : (x : Check) → record_check (back_within (distance_of k)) (record_at numbers_size i aces) ≡ x → x ≡ Ok tt
+      go (Ok tt) e = refl
+      go (Err why) e = absurd (never (refused_without k G (at i) (read i j) why e).0)
 
   -- the first refused record is without a pixel, and those before it are not; its number
-  first_is : (i : ℕ) (why : Refusal) → answer_of c aces output ≡ Refused why i → FirstWithout G aces n i × (result_of c aces output ≡ refused_at aces i)
+  first_is : (i : ℕ) (why : Refusal) → answer_of c aces output ≡ refusal.refused_at why i → FirstWithout G aces n i × (result_of c aces output ≡ refused_at aces i)
   first_is i why e =
       let f = answered_first (record_check c) numbers_size n aces i why (sym scanned ∙ e) in
       let r = refused_without k G (at i) (read i f.in_range) why f.refused in (
@@ -115,13 +114,13 @@ module _ (k : Distance) (G : List ℕ → Pixel → Type 0) (reads : (r : List �
       back_again f = go (record_check c (at i)) refl
         where
           go : (x : Check) → record_check (back_within (distance_of k)) (record_at numbers_size i aces) ≡ x → result_of (back_within (distance_of k)) aces output ≡ refused_at aces i
-          go check.Check.Passed e = absurd (without_refused k G (at i) (read i f.in_range) f.without e)
-          go (check.Check.Refused why) e =
+          go (Ok tt) e = absurd (without_refused k G (at i) (read i f.in_range) f.without e)
+          go (Err why) e =
               (first_is i why
               (scanned
               ∙ first_answered (record_check c) numbers_size n aces 0 i why
               (record { in_range = f.in_range; refused = e; before = λ j m. with_pixel j (omega (arith, f.in_range)) (f.before j m) })
-              ∙ ap (Refused why) (zero-add i))
+              ∙ ap (refusal.refused_at why) (zero-add i))
               ).1
 
   -- it converts exactly when every record is given by a pixel
@@ -136,17 +135,17 @@ module _ (k : Distance) (G : List ℕ → Pixel → Type 0) (reads : (r : List �
   reports_first w = go (answer_of c aces output) refl
     where
       go : (a : Answer) → answer_of (back_within (distance_of k)) aces output ≡ a → ReportsFirst G aces n (result_of (back_within (distance_of k)) aces output)
-      go (Done m) e =
+      go (Ok m) e =
           absurd (without_refused k G (at w.at) (read w.at w.in_range) w.without (scan_passes (record_check c) numbers_size n aces 0 m (sym e ∙ scanned) w.at w.in_range))
-      go (Refused why i) e = let f = first_is i why e in record { at = i; reported = f.1; first = f.0 }
+      go (Err x) e = let f = first_is x.index x.cause e in record { at = x.index; reported = f.1; first = f.0 }
 
   -- THE SENTENCE, of the whole strip: it refuses exactly when some record is without a pixel
   pub refuses_exactly : (0 < (result_of (back_within (distance_of k)) aces output).number) ↔ SomeWithout G aces n
   refuses_exactly = (go (answer_of c aces output) refl, λ w. let r = reports_first w in subst (λ (x : Result ℕ). 0 < x.number) (sym r.reported) (refusal_positive (setting_of (at r.at))))
     where
       go : (a : Answer) → answer_of (back_within (distance_of k)) aces output ≡ a → 0 < (strip_result a).number → SomeWithout G aces n
-      go (Done m) e p = absurd (omega arith)
-      go (Refused why i) e p = let f = (first_is i why e).0 in record { at = i; in_range = f.in_range; without = f.without }
+      go (Ok m) e p = absurd (omega arith)
+      go (Err x) e p = let f = (first_is x.index x.cause e).0 in record { at = x.index; in_range = f.in_range; without = f.without }
 
   -- 5. where it does not refuse, "each record comes back as the only pixel of its setting that gives it"
   pub comes_back : result_of (back_within (distance_of k)) aces output ≡ done (n ∷ []) → (i : ℕ) → i < n → OnlyPixel G (record_at numbers_size i aces) (record_at pixel_size i (strip_after (back_within (distance_of k)) aces output))

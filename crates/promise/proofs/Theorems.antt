@@ -2,6 +2,7 @@
 -- curve and matrix; the way back returns the same bytes, and refuses exactly when a record has no valid setting or no pixel of its setting
 -- gives it, naming the first such record. For every strip of bytes, settings mixed.
 -- Assumes nothing.
+use Rattle.std.specs.Prelude.{Ok}
 use mathlib.Core.Path.{◌≡◌, ap, sym, ◌∙◌, subst}
 use mathlib.Core.Logic.{◌↔◌}
 use mathlib.Core.List.{List, [], ◌∷◌, ◌++◌}
@@ -11,11 +12,9 @@ use native.Mathlib.Omega.{arith}
 use lib.Dec.{lit<}
 use lib.IntN.{ℤ}
 use lib.ListN.{length, drop}
-use Rattle.rules.specs.declared.Answer.TheVariants.{Done}
-use Rattle.rules.specs.declared.Check.TheVariants.{Passed}
 use Rattle.rules.specs.declared.Distance.TheVariants.{Exact}
 use Rattle.rules.specs.declared.Setting.{Setting}
-use Rattle.rules.specs.declared.Triple.{Triple}
+use Rattle.rules.specs.Triples.{Triple}
 use Rattle.rules.specs.Result.{done, strip_result}
 use Rattle.rules.specs.Setting.{code_check, Valid}
 use Rattle.rules.specs.Decoding.{DecodesCode}
@@ -39,15 +38,15 @@ use Rattle.promise.proofs.Single.{same_triple, record_reads, numbers_read}
 use Rattle.promise.proofs.Strips.{aces_long, accepted_good, accepted_whole, aces_strip_records, aces_strip_long, aces_strip_at}
 use Rattle.promise.proofs.Taken as taken
 
-back_itself : (r : List ℕ) → Good pixel_to_aces r → (record_check aces_to_pixel (pixel_to_aces.bytes r) ≡ Passed) × (aces_to_pixel.bytes (pixel_to_aces.bytes r) ≡ r)
+back_itself : (r : List ℕ) → Good pixel_to_aces r → (record_check aces_to_pixel (pixel_to_aces.bytes r) ≡ Ok tt) × (aces_to_pixel.bytes (pixel_to_aces.bytes r) ≡ r)
 back_itself r g = single.back_itself r g Exact
 
 -- THE NUMBER that every conversion uses for a code is a decoded number in the rules' sense
-pub number_used : (s : Setting) → Valid s → (n : ℕ) → code_check s n ≡ Passed → DecodesCode s n (decoded s n)
+pub number_used : (s : Setting) → Valid s → (n : ℕ) → code_check s n ≡ Ok tt → DecodesCode s n (decoded s n)
 number_used = decoding
 
 -- a call that converts n records
-called : (c : Conversion) (input output : List ℕ) (n : ℕ) (after : List ℕ) → Done n ≡ answer_of c input output → output_after c input output (Done n) ≡ after
+called : (c : Conversion) (input output : List ℕ) (n : ℕ) (after : List ℕ) → Ok n ≡ answer_of c input output → output_after c input output (Ok n) ≡ after
     → (result_of c input output ≡ done (n ∷ [])) × (strip_after c input output ≡ after)
 called c input output n after e w = (ap strip_result (sym e), ap (output_after c input output) (sym e) ∙ w)
 
@@ -100,7 +99,7 @@ strip_within pixels n a k h i l =
 record_grey : (r : List ℕ) → Good pixel_to_aces r → HoldsPixel r → (c : ℕ) → IsGrey r c → (i : ℕ) → i < 3 → number_in i (pixel_to_aces.bytes r) ≡ decoded (setting_of r) c
 record_grey r g h c e i l =
     let s = setting_of r in
-    let d = equal_codes s h.valid c (subst (λ (m : ℕ). code_check s m ≡ Passed) e.red h.pixel.red) in
+    let d = equal_codes s h.valid c (subst (λ (m : ℕ). code_check s m ≡ Ok tt) e.red h.pixel.red) in
     channel_number r g i l ∙ same i (decoded s) ∙ grey i l d
   where
     same : (i : ℕ) (number : ℕ → ℤ)

@@ -1,8 +1,7 @@
 -- Demand 2, of what scene strips hold. Pixel to scene writes decoded numbers, scene to pixel writes
 -- the nearest codes, each in the channel and with the setting of its own record.
 -- Assumes nothing.
-use Rattle.std.specs.Prelude.{List, ◌≡◌, ℕ, ◌*◌, ◌<◌, length}
-use Rattle.rules.specs.declared.Check.TheVariants.{Passed}
+use Rattle.std.specs.Prelude.{List, ◌≡◌, ℕ, ◌*◌, ◌<◌, length, Ok}
 use Rattle.rules.specs.declared.Setting.{Setting}
 use Rattle.rules.specs.Setting.{Valid}
 use Rattle.rules.specs.Calls.{EncodesBy}
@@ -25,7 +24,7 @@ AcceptedCodes = AcceptedBy Valid
 -- and three numbers that pass check 7
 pub record HoldsScene (r : List ℕ) : Type 0 where
   pub valid : Valid (setting_of r)
-  pub numbers : (i : ℕ) → i < 3 → scene_check (of_bits number_bytes (channel_at number_bytes r i)) ≡ Passed
+  pub numbers : (i : ℕ) → i < 3 → scene_check (of_bits number_bytes (channel_at number_bytes r i)) ≡ Ok tt
 
 pub record AcceptedScenes (scenes : List ℕ) (n : ℕ) : Type 0 where
   pub bytes : IsBytes scenes

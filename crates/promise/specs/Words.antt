@@ -2,12 +2,10 @@
 -- ValidForAces, a pixel of it IsPixel: 02, item 3: "the promise about equal ACES strips covers curves 3 and 4 .. there a setting of curve 2 isn't
 -- valid".
 -- Assumes nothing.
-use Rattle.std.specs.Prelude.{List, ◌≡◌, ℕ, ◌*◌, ◌/◌, ◌<◌, ℤ, length}
-use Rattle.rules.specs.declared.Check.TheVariants.{Refused}
-use Rattle.rules.specs.declared.Pixel.{Pixel}
+use Rattle.std.specs.Prelude.{List, ◌≡◌, ℕ, ◌*◌, ◌/◌, ◌<◌, ℤ, length, Err}
+use Rattle.rules.specs.Triples.{Pixel, Triple}
 use Rattle.rules.specs.declared.Refusal.TheVariants.{NoPixel}
 use Rattle.rules.specs.declared.Setting.{Setting}
-use Rattle.rules.specs.declared.Triple.{Triple}
 use Rattle.rules.specs.Refusal.{then, number_of_check}
 use Rattle.rules.specs.Result.{Result, done, refused_by}
 use Rattle.rules.specs.Setting.{step_of, aces_check, ValidForAces}
@@ -74,7 +72,7 @@ NearExact i r a = WithinRow aces_tolerance (matrix_of (setting_of r)) i (scale_o
 
 -- the number by which a way back refuses under a setting: that of the setting's first check that fails, else 10
 abbrev pub refusal_of : Setting → ℕ
-refusal_of s = number_of_check (then (aces_check s) (Refused NoPixel))
+refusal_of s = number_of_check (then (aces_check s) (Err NoPixel))
 
 -- ---- a way back of one record. G says which pixels of its setting give it.
 

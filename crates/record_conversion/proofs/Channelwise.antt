@@ -1,14 +1,14 @@
 -- Conversions channel by channel: what is read of a record that one of them wrote. And two of them,
 -- of which the second takes what the first wrote for a channel to what `back` says: then it does so with each record.
 -- Assumes nothing.
+use Rattle.std.specs.Prelude.{Ok}
 use mathlib.Core.Path.{◌≡◌, ap}
 use mathlib.Core.List.{List}
 use Prim.Native.Nat.{ℕ, zero, suc, ◌+◌, ◌*◌, ◌^◌, ◌<◌}
 use native.Mathlib.Omega.{arith}
 use lib.Dec.{lit<}
 use lib.ListN.{drop}
-use Rattle.rules.specs.declared.Check.{Check}
-use Rattle.rules.specs.declared.Check.TheVariants.{Passed}
+use Rattle.rules.specs.Refusal.{Check}
 use Rattle.rules.specs.declared.Setting.{Setting}
 use Rattle.rules.specs.Record.{setting_bytes, setting_of, Channels, channel_at, channels_of, record_of}
 use Rattle.rules.specs.Strip.{record_check}
@@ -20,18 +20,18 @@ use Rattle.rules.specs.Conversions.{channel_checks, each_channel, channelwise}
 
 -- ---- what is read of what was written, where each channel that passes fits
 module _ (setting : Setting → Check) (a b : ℕ) (check : Setting → ℕ → Check) (one : Setting → ℕ → ℕ)
-    (fits : (s : Setting) → setting s ≡ Passed → (u : ℕ) → u < 256 ^ a → check s u ≡ Passed → one s u < 256 ^ b) (r : List ℕ) (g : Good (channelwise setting a b check one) r) where
+    (fits : (s : Setting) → setting s ≡ Ok tt → (u : ℕ) → u < 256 ^ a → check s u ≡ Ok tt → one s u < 256 ^ b) (r : List ℕ) (g : Good (channelwise setting a b check one) r) where
   abbrev written : Channels
   written = record { red = one (setting_of r) (channel_at a r 0); green = one (setting_of r) (channel_at a r 1); blue = one (setting_of r) (channel_at a r 2) }
 
-  parts : (setting (setting_of r) ≡ Passed) × (channel_checks a (check (setting_of r)) r ≡ Passed)
+  parts : (setting (setting_of r) ≡ Ok tt) × (channel_checks a (check (setting_of r)) r ≡ Ok tt)
   parts = both (setting (setting_of r)) (channel_checks a (check (setting_of r)) r) g.passes
 
-  pub setting_passes : setting (setting_of r) ≡ Passed
+  pub setting_passes : setting (setting_of r) ≡ Ok tt
   setting_passes = parts.0
 
   -- each channel passes
-  pub channel_passes : (i : ℕ) → i < 3 → check (setting_of r) (channel_at a r i) ≡ Passed
+  pub channel_passes : (i : ℕ) → i < 3 → check (setting_of r) (channel_at a r i) ≡ Ok tt
   channel_passes zero h = (all_pass a (check (setting_of r)) r parts.1).red
   channel_passes (suc zero) h = (all_pass a (check (setting_of r)) r parts.1).green
   channel_passes (suc (suc zero)) h = (all_pass a (check (setting_of r)) r parts.1).blue
@@ -73,17 +73,17 @@ module _ (setting : Setting → Check) (a b : ℕ) (check check' : Setting → �
   -- what is written for a channel fits, passes, and is taken back
   pub record TakenBack (s : Setting) (u : ℕ) : Type 0 where
     pub fits : one s u < 256 ^ b
-    pub passes : check' s (one s u) ≡ Passed
+    pub passes : check' s (one s u) ≡ Ok tt
     pub returns : two s (one s u) ≡ back s u
 
-  module _ (each : (s : Setting) → setting s ≡ Passed → (u : ℕ) → u < 256 ^ a → check s u ≡ Passed → TakenBack s u) (r : List ℕ) (g : Good (channelwise setting a b check one) r) where
-    fits_each : (s : Setting) → setting s ≡ Passed → (u : ℕ) → u < 256 ^ a → check s u ≡ Passed → one s u < 256 ^ b
+  module _ (each : (s : Setting) → setting s ≡ Ok tt → (u : ℕ) → u < 256 ^ a → check s u ≡ Ok tt → TakenBack s u) (r : List ℕ) (g : Good (channelwise setting a b check one) r) where
+    fits_each : (s : Setting) → setting s ≡ Ok tt → (u : ℕ) → u < 256 ^ a → check s u ≡ Ok tt → one s u < 256 ^ b
     fits_each s v u l e = (each s v u l e).fits
 
     abbrev there : List ℕ
     there = (channelwise setting a b check one).bytes r
 
-    valid : setting (setting_of r) ≡ Passed
+    valid : setting (setting_of r) ≡ Ok tt
     valid = setting_passes setting a b check one fits_each r g
 
     same_setting : setting_of there ≡ setting_of r
@@ -95,7 +95,7 @@ module _ (setting : Setting → Check) (a b : ℕ) (check check' : Setting → �
     taken : (i : ℕ) → i < 3 → TakenBack (setting_of r) (channel_at a r i)
     taken i h = each (setting_of r) valid (channel_at a r i) (channel_small setting a b check one fits_each r g i) (channel_passes setting a b check one fits_each r g i h)
 
-    pub record_passes : record_check (channelwise setting b a check' two) there ≡ Passed
+    pub record_passes : record_check (channelwise setting b a check' two) there ≡ Ok tt
     unfolding channel_checks
     record_passes =
         rw (same_setting, valid, same_channel 0 (lit< tt), (taken 0 (lit< tt)).passes, same_channel 1 (lit< tt), (taken 1 (lit< tt)).passes, same_channel 2 (lit< tt), (taken 2 (lit< tt)).passes)

@@ -1,4 +1,3 @@
-pub mod EveryKind
 pub mod Good
 pub mod Channelwise
 pub mod SceneBits

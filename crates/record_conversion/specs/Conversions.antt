@@ -1,16 +1,13 @@
 -- The conversions of the rules, with the decoded numbers and the scene triples of graded numbers put in.
 -- Assumes nothing.
-use Rattle.std.specs.Prelude.{List, ℕ}
-use Rattle.rules.specs.declared.Check.{Check}
-use Rattle.rules.specs.declared.Check.TheVariants.{Passed, Refused}
+use Rattle.std.specs.Prelude.{List, ℕ, Err, Ok}
+use Rattle.rules.specs.Refusal.{Check}
 use Rattle.rules.specs.declared.Setting.{Setting}
 use Rattle.rules.specs.Conversions as rules
 use Rattle.rules.specs.Strip.{Conversion}
-use Rattle.rules.specs.WayBack.{exact, tolerated, distance_of}
+use Rattle.rules.specs.WayBack.{exact, tolerated}
 use Rattle.decode.specs.Decoded.{decoded}
 use Rattle.aces_inverse.specs.Inverse.{candidates}
-use Rattle.record_conversion.specs.declared.Kind.{Kind}
-use Rattle.record_conversion.specs.declared.Kind.TheVariants.{PixelToScene, SceneToPixel, PixelToAces, AcesToPixel, AcesToHalf, HalfToAces, GradedToPixel, GradedToScene}
 
 abbrev pub scene_bits : Setting → ℕ → ℕ
 scene_bits = rules.scene_bits decoded
@@ -43,18 +40,7 @@ graded_to_pixel = rules.graded_to_pixel candidates decoded
 abbrev pub graded_to_scene : Conversion
 graded_to_scene = rules.graded_to_scene candidates
 
--- the conversion that a value names
-abbrev pub conversion_of : Kind → Conversion
-conversion_of PixelToScene = pixel_to_scene
-conversion_of SceneToPixel = scene_to_pixel
-conversion_of PixelToAces = pixel_to_aces
-conversion_of (AcesToPixel k) = back_within (distance_of k)
-conversion_of AcesToHalf = rules.aces_to_half
-conversion_of HalfToAces = rules.half_to_aces
-conversion_of GradedToPixel = graded_to_pixel
-conversion_of GradedToScene = graded_to_scene
-
 -- the stretch of a record after its check: what is written for it where it passes, else what stood there
 abbrev pub stretch_after : Check → (bytes out : List ℕ) → List ℕ
-stretch_after Passed bytes out = bytes
-stretch_after (Refused why) bytes out = out
+stretch_after (Ok tt) bytes out = bytes
+stretch_after (Err why) bytes out = out

@@ -1,1 +1,3 @@
 pub mod Conversions
+pub mod Lawful
+pub mod Laws

@@ -2,139 +2,90 @@
 
 #![tactic(auto)]
 
-ghost use Rattle.std.specs.Prelude.{◌≡◌, ◌<◌, length};
-ghost use Rattle.rules.specs.declared.Check.TheVariants.{Passed};
+ghost use Rattle.std.specs.Prelude.{◌≡◌, ◌<◌, length, Ok};
 ghost use Rattle.rules.specs.Record.{setting_of};
-ghost use Rattle.decode.specs.Ready.{Ready};
 ghost use Rattle.rules.specs.WayBack.{distance_of};
-ghost use Rattle.record_conversion.specs.Conversions.{back_within, conversion_of, stretch_after};
+ghost use Rattle.record_conversion.specs.Conversions.{back_within, stretch_after};
 
-use decode::decoder::Decoder;
-use records::{HALVES_SIZE, NUMBERS_SIZE, PIXEL_SIZE};
-use rules::{Check, Distance, Refusal, Setting};
+pub use aces_to_half::AcesToHalf;
+pub use aces_to_pixel::AcesToPixel;
+use decode::prepared::Prepared;
+pub use graded_to_pixel::GradedToPixel;
+pub use graded_to_scene::GradedToScene;
+pub use half_to_aces::HalfToAces;
+pub use pixel_to_aces::PixelToAces;
+pub use pixel_to_scene::PixelToScene;
+use rules::{Distance, Refusal, Setting};
+pub use scene_to_pixel::SceneToPixel;
 
-// Which conversion. (The order is for speed: docs/DECISIONS.md.)
-#[derive(Clone, Copy)]
-pub enum Kind {
-    PixelToAces,
-    AcesToPixel(Distance),
-    PixelToScene,
-    SceneToPixel,
-    AcesToHalf,
-    HalfToAces,
-    GradedToPixel,
-    GradedToScene,
-}
+mod aces_to_half;
+mod aces_to_pixel;
+mod graded_to_pixel;
+mod graded_to_scene;
+mod half_to_aces;
+mod pixel_to_aces;
+mod pixel_to_scene;
+mod scene_to_pixel;
 
-// The bytes of a record, and of what is written for one.
-pub fn size_from(k: Kind) -> usize
-    ensures { (result ≡ (conversion_of k).from) × (0 < result) × (result < 100) }
-{
-    match k {
-        Kind::PixelToAces => PIXEL_SIZE,
-        Kind::AcesToPixel(_) => NUMBERS_SIZE,
-        Kind::PixelToScene => PIXEL_SIZE,
-        Kind::SceneToPixel => NUMBERS_SIZE,
-        Kind::AcesToHalf => NUMBERS_SIZE,
-        Kind::HalfToAces => HALVES_SIZE,
-        Kind::GradedToPixel => NUMBERS_SIZE,
-        Kind::GradedToScene => NUMBERS_SIZE,
-    }
-}
+// The setting that is prepared before the first record's. Every conversion accepts it.
+pub const FIRST: Setting = Setting {
+    curve: 4,
+    width: 12,
+    ei: 0,
+};
 
-pub fn size_to(k: Kind) -> usize
-    ensures { (result ≡ (conversion_of k).to) × (0 < result) × (result < 100) }
-{
-    match k {
-        Kind::PixelToAces => NUMBERS_SIZE,
-        Kind::AcesToPixel(_) => PIXEL_SIZE,
-        Kind::PixelToScene => NUMBERS_SIZE,
-        Kind::SceneToPixel => PIXEL_SIZE,
-        Kind::AcesToHalf => HALVES_SIZE,
-        Kind::HalfToAces => NUMBERS_SIZE,
-        Kind::GradedToPixel => PIXEL_SIZE,
-        Kind::GradedToScene => NUMBERS_SIZE,
-    }
-}
+// A conversion of records, each on its own: a type for each, so that a loop over records has the steps of one of them (docs/DECISIONS.md).
+// (The impls are alike in form: each method is the one call of its conversion, and edits hold each to it. A record is a slice with its length in
+// a clause: the length is of the type, and Rattle has no array of a length that is computed from one.)
+pub trait RecordConversion: Copy {
+    ghost use Rattle.rules.specs.Strip.{Conversion};
+    ghost use Rattle.record_conversion.specs.Lawful.{Lawful};
 
-// The checks of a record's setting.
-pub fn check_setting(k: Kind, s: Setting) -> Check
-    ensures { result ≡ (conversion_of k).setting s }
-{
-    match k {
-        Kind::PixelToAces => setting::check_for_aces(s),
-        Kind::AcesToPixel(_) => setting::check_for_aces(s),
-        Kind::PixelToScene => setting::check_setting(s),
-        Kind::SceneToPixel => setting::check_setting(s),
-        Kind::AcesToHalf => setting::check_for_aces(s),
-        Kind::HalfToAces => setting::check_for_aces(s),
-        Kind::GradedToPixel => setting::check_for_aces(s),
-        Kind::GradedToScene => setting::check_for_aces(s),
-    }
-}
+    // The conversion of the rules.
+    ghost rule: { Self → Conversion };
 
-// The checks of a record after its setting's.
-#[tactic(auto, unfolding(rules::specs::Conversions::channel_checks))]
-pub fn check_inner(k: Kind, s: Setting, d: Decoder, t: &[u64; 128], r: &[u8]) -> Check
-    requires ready { Ready s d t.now }
-    requires s_value { (s ≡ setting_of r.now) × (length r.now ≡ (conversion_of k).from) × ((conversion_of k).setting s ≡ Passed) }
-    ensures { result ≡ (conversion_of k).inner r.now }
-{
-    match k {
-        Kind::PixelToAces => pixel_record::check_codes(s, r),
-        Kind::AcesToPixel(distance) => aces_record::check_triple(distance, s, d, t, r),
-        Kind::PixelToScene => pixel_record::check_codes(s, r),
-        Kind::SceneToPixel => scene_record::check_numbers(s, r),
-        Kind::AcesToHalf => Check::Passed,
-        Kind::HalfToAces => half_record::check_halves(r),
-        Kind::GradedToPixel => graded_record::check_graded(r),
-        Kind::GradedToScene => graded_record::check_graded(r),
-    }
-}
+    // The bytes of a record, and of what is written for one. (Functions and no constants, since `rule` takes a value.)
+    fn size_from(self) -> usize
+        ensures { (result ≡ (rule self).from) × (0 < result) × (result < 100) };
 
-// What is written for a record that passes.
-pub fn write_record(k: Kind, s: Setting, d: Decoder, t: &[u64; 128], r: &[u8], out: &mut [u8])
-    requires ready { Ready s d t.now }
-    requires s_value { (s ≡ setting_of r.now) × (length r.now ≡ (conversion_of k).from) × ((conversion_of k).inner r.now ≡ Passed) × ((conversion_of k).setting s ≡ Passed) }
-    requires out_len { length out.old ≡ (conversion_of k).to }
-    ensures { out.new ≡ (conversion_of k).bytes r.now }
-{
-    match k {
-        Kind::PixelToAces => aces_record::write_triple(s, d, t, r, out),
-        Kind::AcesToPixel(_) => aces_record::write_back(s, d, t, r, out),
-        Kind::PixelToScene => pixel_record::write_scene(s, d, t, r, out),
-        Kind::SceneToPixel => scene_record::write_pixel(s, d, t, r, out),
-        Kind::AcesToHalf => half_record::write_halves(s, r, out),
-        Kind::HalfToAces => half_record::write_units(s, r, out),
-        Kind::GradedToPixel => graded_record::write_pixel(s, d, t, r, out),
-        Kind::GradedToScene => graded_record::write_scene(s, r, out),
-    }
+    fn size_to(self) -> usize
+        ensures { (result ≡ (rule self).to) × (0 < result) × (result < 100) };
+
+    // The checks of a record's setting.
+    fn check_setting(self, s: Setting) -> Result<(), Refusal>
+        ensures { result ≡ (rule self).setting s };
+
+    // The checks of a record after its setting's.
+    fn check_inner(self, d: &Prepared, r: &[u8]) -> Result<(), Refusal>
+        requires { (d.now.setting ≡ setting_of r.now) × (length r.now ≡ (rule self).from) × ((rule self).setting d.now.setting ≡ Ok tt) }
+        ensures { result ≡ (rule self).inner r.now };
+
+    // What is written for a record that passes.
+    fn write_record(self, d: &Prepared, r: &[u8], out: &mut [u8])
+        requires s_value { (d.now.setting ≡ setting_of r.now) × (length r.now ≡ (rule self).from) × ((rule self).inner r.now ≡ Ok tt) × ((rule self).setting d.now.setting ≡ Ok tt) }
+        requires out_len { length out.old ≡ (rule self).to }
+        ensures { out.new ≡ (rule self).bytes r.now };
+
+    // What holds of every conversion.
+    ghost lawful: { (k : Self) → Lawful (rule k) };
 }
 
 // An ACES record on the way back, exact or tolerant, in one step: its check, refusal 10, and where it passes what is written for it. (The steps
 // of a way back stand here, and not behind one call, for speed: docs/DECISIONS.md.)
-pub fn convert_aces(
-    k: Distance,
-    s: Setting,
-    d: Decoder,
-    t: &[u64; 128],
-    r: &[u8],
-    out: &mut [u8],
-) -> Check
-    requires ready { Ready s d t.now }
-    requires s_value { (s ≡ setting_of r.now) × (length r.now ≡ (back_within (distance_of k)).from) × ((back_within (distance_of k)).setting s ≡ Passed) }
+pub fn convert_aces(k: Distance, d: &Prepared, r: &[u8], out: &mut [u8]) -> Result<(), Refusal>
+    requires s_value { (d.now.setting ≡ setting_of r.now) × (length r.now ≡ (back_within (distance_of k)).from) × ((back_within (distance_of k)).setting d.now.setting ≡ Ok tt) }
     requires out_len { length out.old ≡ (back_within (distance_of k)).to }
     ensures value { result ≡ (back_within (distance_of k)).inner r.now }
     ensures out_after { out.new ≡ stretch_after result ((back_within (distance_of k)).bytes r.now) out.old }
 {
-    let a = records::triple_in(r);
+    let a = records::channels_in(r);
     if !way_back::all_in_reach(a.red, a.green, a.blue) {
-        return Check::Refused(Refusal::NoPixel);
+        return Err(Refusal::NoPixel);
     }
-    let p = way_back::candidate(s, d, t, a.red, a.green, a.blue);
-    if !way_back::gives(k, s, d, t, p, a.red, a.green, a.blue) {
-        return Check::Refused(Refusal::NoPixel);
+    let p = way_back::candidate(d, a.red, a.green, a.blue);
+    if !way_back::gives(k, d, p, a.red, a.green, a.blue) {
+        return Err(Refusal::NoPixel);
     }
-    records::put_pixel(out, s, p);
-    Check::Passed
+    records::put(out, d.setting, p);
+    Ok(())
 }

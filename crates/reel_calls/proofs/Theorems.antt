@@ -1,5 +1,6 @@
 -- 02, item 9: A REEL OF RECORDS KEPT WITH ITS SUMS, after any list of calls from an empty reel.
 -- Assumes nothing.
+use Rattle.std.specs.Prelude.{Err, Ok}
 use mathlib.Core.List.{List, [], ◌∷◌}
 use mathlib.Core.Path.{◌≡◌, refl, sym, ap, ◌∙◌, subst}
 use Prim.Native.Nat.{ℕ, ◌-◌, ◌*◌, ◌^◌, ◌≤◌, ◌<◌}
@@ -8,17 +9,13 @@ use lib.Dec.{lit<}
 use lib.IntN.{nat_abs}
 use lib.ListN.{length}
 use Rattle.whole.proofs.Reflect.{abs_is, one_zero, sub_dif}
-use Rattle.rules.specs.declared.Check.TheVariants.{Passed}
-use Rattle.rules.specs.declared.ReelAnswer.{ReelAnswer}
-use Rattle.rules.specs.declared.ReelAnswer.TheVariants.{Done, Refused}
+use Rattle.rules.specs.Refusal.{OrRefusal, number_of_check}
 use Rattle.rules.specs.declared.Refusal.{Refusal}
 use Rattle.rules.specs.declared.Setting.{Setting}
 use Rattle.rules.specs.declared.Totals.{Totals}
 use Rattle.rules.specs.Record.{setting_of, channel_at, code_bytes, pixel_size}
-use Rattle.rules.specs.Reel.{Call, WholeRecord, call_check, fold, records_after, Reel, reel_of, reel_most, room_in, no_totals, empty_reel}
-use Rattle.rules.specs.Reel.{sum_of, scene_at, TrueSums, reel_answer, reel_after, reel_after_all, Answers}
+use Rattle.rules.specs.Reel.{Call, WholeRecord, call_check, fold, records_after, Reel, reel_of, reel_most, room_in, no_totals, empty_reel, sum_of, scene_at, TrueSums, reel_answer, reel_after, reel_after_all, Answers}
 use Rattle.rules.specs.Strip.{records}
-use Rattle.rules.specs.Refusal.{number_of_check}
 use Rattle.rules.specs.Result.{Each}
 use Rattle.rules.specs.Setting.{step_of, code_check, ValidForAces}
 use Rattle.rules.proofs.Codes.{code_passed}
@@ -35,7 +32,7 @@ use Rattle.decode.proofs.Theorems.{decoding}
 use Rattle.reel_calls.specs.Words.{after_calls, held_in, LetIn, AddsDecoded, SmallSums, sum_limit, answer_number, kept_after, Made, none, next}
 
 -- ---- the decoded numbers are below 2 ^ 33, without their sign
-decoded_below : (s : Setting) → ValidForAces s → (n : ℕ) → code_check s n ≡ Passed → nat_abs (decoded s n) < 2 ^ 33
+decoded_below : (s : Setting) → ValidForAces s → (n : ℕ) → code_check s n ≡ Ok tt → nat_abs (decoded s n) < 2 ^ 33
 decoded_below s v n e =
     let z = decoded s n in
     omega (arith, abs_is z, one_zero z, sub_dif (raw s (step_of s n)) offset, raw_limited s (aces_valid s v) (step_of s n) (code_passed s n e))
@@ -133,18 +130,18 @@ module _ (strip : List ℕ) (long : reel_most * pixel_size ≤ length strip) (ca
 -- ---- EVERY REEL, whatever is in its strip and is kept beside it, and every call
 module _ (reel : Reel) (c : Call) where
   -- A REFUSED CALL changes neither the reel nor its sums
-  pub refused_keeps : (why : Refusal) → reel_answer decoded reel c ≡ Refused why → reel_after decoded reel c ≡ reel
+  pub refused_keeps : (why : Refusal) → reel_answer decoded reel c ≡ Err why → reel_after decoded reel c ≡ reel
   refused_keeps why e = laws.refused_keeps decoded reel c why e
 
   -- an accepted one answers the count and the sums that are then kept
-  pub done_counts : (t : Totals) → reel_answer decoded reel c ≡ Done t → t ≡ (reel_after decoded reel c).totals
+  pub done_counts : (t : Totals) → reel_answer decoded reel c ≡ Ok t → t ≡ (reel_after decoded reel c).totals
   done_counts t e = laws.done_counts decoded reel c t e
 
 -- ---- THE CALLS THAT A CALLER MAKES, each with its contract, make the reel of the rules: so all of the above is about them
-one_made : (strip : List ℕ) (t : Totals) (c : Call) (a : ReelAnswer) {after : List ℕ} → Answers decoded strip t c a after
+one_made : (strip : List ℕ) (t : Totals) (c : Call) (a : OrRefusal Totals) {after : List ℕ} → Answers decoded strip t c a after
     → reel_of after (kept_after a t) ≡ reel_after decoded (reel_of strip t) c
-one_made strip t c (Done u) h = λ i. reel_of (h.writes i) (done_counts (reel_of strip t) c u (sym h.answers) i)
-one_made strip t c (Refused why) h =
+one_made strip t c (Ok u) h = λ i. reel_of (h.writes i) (done_counts (reel_of strip t) c u (sym h.answers) i)
+one_made strip t c (Err why) h =
     let same = sym (ap (λ (reel : Reel). reel.totals) (refused_keeps (reel_of strip t) c why (sym h.answers))) in
     λ i. reel_of (h.writes i) (same i)
 

@@ -1,10 +1,8 @@
 -- 02, item 9, of any list of calls on a reel in memory, with the decoded numbers: the reel after them, the records that it holds, and what is
 -- said of a record's numbers, of the sums and of answers.
 -- Assumes nothing.
-use Rattle.std.specs.Prelude.{List, [], ◌∷◌, ◌≡◌, ℕ, ◌^◌, ◌<◌, nat_abs}
-use Rattle.rules.specs.declared.Check.TheVariants.{Passed}
-use Rattle.rules.specs.declared.ReelAnswer.{ReelAnswer}
-use Rattle.rules.specs.declared.ReelAnswer.TheVariants.{Done, Refused}
+use Rattle.std.specs.Prelude.{List, [], ◌∷◌, ◌≡◌, ℕ, ◌^◌, ◌<◌, nat_abs, Err, Ok}
+use Rattle.rules.specs.Refusal.{OrRefusal}
 use Rattle.rules.specs.declared.Totals.{Totals}
 use Rattle.rules.specs.Decoding.{DecodesCode}
 use Rattle.rules.specs.Record.{setting_of, channel_at, of_bits, code_bytes, pixel_size}
@@ -22,7 +20,7 @@ held_in reel = records pixel_size reel.totals.count reel.strip
 
 -- a record that the checks let in
 abbrev pub LetIn : List ℕ → Type 0
-LetIn r = meter_check r ≡ Passed
+LetIn r = meter_check r ≡ Ok tt
 
 -- the three scene numbers that are added for a record are what the rules ask of the decoded numbers of its codes
 abbrev pub AddsDecoded : List ℕ → Type 0
@@ -43,11 +41,11 @@ answer_number reel c = (reel_result (reel_answer decoded reel c)).number
 
 -- what is kept after an answer, and a list of calls as a caller makes them: each is made on what the one before it left, and does what its
 -- contract says. (A record is lent as ten bytes, by its type: so each call has a whole record.)
-abbrev pub kept_after : ReelAnswer → Totals → Totals
-kept_after (Done t') t = t'
-kept_after (Refused why) t = t
+abbrev pub kept_after : OrRefusal Totals → Totals → Totals
+kept_after (Ok t') t = t'
+kept_after (Err why) t = t
 
 pub data Made : (strip : List ℕ) (t : Totals) → List Call → (strip' : List ℕ) (t' : Totals) → Type 0 where
   none : {strip : List ℕ} {t : Totals} → Made strip t [] strip t
-  next : {strip after strip' : List ℕ} {t t' : Totals} {c : Call} {cs : List Call} (answer : ReelAnswer) → Answers decoded strip t c answer after
+  next : {strip after strip' : List ℕ} {t t' : Totals} {c : Call} {cs : List Call} (answer : OrRefusal Totals) → Answers decoded strip t c answer after
       → Made after (kept_after answer t) cs strip' t' → Made strip t (c ∷ cs) strip' t'

@@ -9,14 +9,14 @@ ghost use Rattle.rules.specs.Reel.{reel_result};
 ghost use Rattle.reel_for_c.specs.Call.{totals, count_after, sums_after, GivesReel};
 
 use records::PIXEL_SIZE;
-use rules::{ReelAnswer, Totals};
+use rules::{Refusal, Totals};
 
 // The count and the sums of C.
 fn totals_of(count: u64, sums: &[u64; 3]) -> Totals
     ensures { result ≡ totals count sums.now }
 {
     Totals {
-        count: count,
+        count,
         red: sums[0],
         green: sums[1],
         blue: sums[2],
@@ -24,18 +24,18 @@ fn totals_of(count: u64, sums: &[u64; 3]) -> Totals
 }
 
 // An answer as C has it: its number, and where it is 0 the count and the sums.
-fn give(a: ReelAnswer, count: &mut u64, sums: &mut [u64; 3]) -> u32
+fn give(a: Result<Totals, Refusal>, count: &mut u64, sums: &mut [u64; 3]) -> u32
     ensures value { result ≡ (reel_result a).number }
     ensures count_after { count.new ≡ count_after a count.old }
     ensures sums_after { sums.new ≡ sums_after a sums.old }
 {
     match a {
-        ReelAnswer::Done(t) => {
+        Ok(t) => {
             *count = t.count;
             *sums = [t.red, t.green, t.blue];
             0
         }
-        ReelAnswer::Refused(why) => setting::refusal_number(why) as u32,
+        Err(why) => setting::refusal_number(why) as u32,
     }
 }
 

@@ -1,30 +1,41 @@
--- The checks of a record, and what is added for it.
+-- What is added for a record that passes: the decoded numbers of its codes.
 -- Assumes nothing.
-use mathlib.Core.Path.{◌≡◌, refl}
+use Rattle.std.specs.Prelude.{Ok}
+use mathlib.Core.Path.{◌≡◌, refl, ◌∙◌}
 use mathlib.Core.List.{List}
 use Prim.Native.Nat.{ℕ}
-use Rattle.rules.specs.declared.Check.{Check}
-use Rattle.rules.specs.declared.Check.TheVariants.{Passed, Refused}
-use Rattle.rules.specs.declared.Refusal.{Refusal}
+use lib.Dec.{lit<}
+use lib.IntN.{ℤ}
 use Rattle.rules.specs.declared.Setting.{Setting}
-use Rattle.rules.specs.Pixels.{scenes}
-use Rattle.rules.specs.Record.{setting_of, code_bytes}
-use Rattle.rules.specs.Refusal.{then}
-use Rattle.rules.specs.Setting.{aces_check, code_check}
-use Rattle.rules.specs.Conversions.{channel_checks}
-use Rattle.rules.specs.Reel.{meter_check, metered, scene_at, no_scenes}
+use Rattle.rules.specs.Pixels.{scenes, IsPixel}
+use Rattle.rules.specs.Record.{setting_of, pixel_in}
+use Rattle.rules.specs.Reel.{meter_check, metered, scene_at}
+use Rattle.rules.specs.Setting.{Valid}
+use Rattle.rules.specs.Triples.{Pixel, Scenes}
+use Rattle.rules.proofs.ReelChecks.{passing}
+use Rattle.rules.proofs.Settings.{aces_valid}
 use Rattle.decode.specs.Decoded.{decoded}
 
--- the setting's answer decides, and then the codes'
-pub meter_decides : (r : List ℕ) {s : Setting} {x : Check} → s ≡ setting_of r → x ≡ aces_check s → meter_check r ≡ then x (channel_checks code_bytes (code_check s) r)
-unfolding meter_check
-meter_decides r e f = rw (f, e)
-
-pub metered_passed : (r : List ℕ) → meter_check r ≡ Passed
-    → scenes (scene_at decoded r 0) (scene_at decoded r 1) (scene_at decoded r 2) ≡ metered decoded r
+metered_passed : (r : List ℕ) → meter_check r ≡ Ok tt → scenes (scene_at decoded r 0) (scene_at decoded r 1) (scene_at decoded r 2) ≡ metered decoded r
 unfolding metered
 metered_passed r e = rw e refl
 
-pub metered_refused : (r : List ℕ) (why : Refusal) → meter_check r ≡ Refused why → no_scenes ≡ metered decoded r
-unfolding metered
-metered_refused r why e = rw e refl
+module _ (r : List ℕ) (passed : meter_check r ≡ Ok tt) {s : Setting} (set : s ≡ setting_of r) where
+  pub setting_valid : Valid s
+  setting_valid = rw set (aces_valid (setting_of r) (passing r passed).setting)
+
+  module _ {p : Pixel} (pixel : p ≡ pixel_in r) where
+    pub codes_pass : IsPixel s p
+    codes_pass =
+        let code = (passing r passed).code in
+        rw (set, pixel) (record { red = code 0 (lit< tt); green = code 1 (lit< tt); blue = code 2 (lit< tt) })
+
+    number_is : (code : Pixel → ℕ) {z : ℤ} → z ≡ decoded s (code p) → z ≡ decoded (setting_of r) (code (pixel_in r))
+    number_is code h = rw (set, pixel) at h
+
+    pub numbers_metered : {x : Scenes} → x.red.0 ≡ decoded s p.red.0 → x.green.0 ≡ decoded s p.green.0 → x.blue.0 ≡ decoded s p.blue.0 → x ≡ metered decoded r
+    numbers_metered e f h =
+        let red = number_is (λ q. q.red.0) e in
+        let green = number_is (λ q. q.green.0) f in
+        let blue = number_is (λ q. q.blue.0) h in
+        (λ i. record { red = record { 0 = red i }; green = record { 0 = green i }; blue = record { 0 = blue i } }) ∙ metered_passed r passed

@@ -19,7 +19,7 @@ pub fn room_in(strip: &[u8]) -> u64
     ensures { result ≡ room_in strip.now }
 {
     let whole = (strip.len() / PIXEL_SIZE) as u64;
-    if MOST <= whole { MOST } else { whole }
+    whole.min(MOST)
 }
 
 // Whether an index is held.

@@ -11,16 +11,16 @@ use rules::{Scene, Scenes, Totals};
 fn sum_after(sum: u64, old: Scene, new: Scene) -> u64
     ensures { result ≡ sum_after sum old.0 new.0 }
 {
-    let with_new = std::num::wrapping_add_u64(sum, little_endian::to_bits(new.0));
-    std::num::wrapping_sub_u64(with_new, little_endian::to_bits(old.0))
+    sum.wrapping_add(little_endian::to_bits(new.0))
+        .wrapping_sub(little_endian::to_bits(old.0))
 }
 
-// A count, and the sums with the numbers of one record taken off and those of another added.
+// The sums with the numbers of one record taken off and those of another added, beside a count.
 pub fn totals_with(count: u64, t: Totals, old: Scenes, new: Scenes) -> Totals
     ensures { result ≡ totals_with count t old new }
 {
     Totals {
-        count: count,
+        count,
         red: sum_after(t.red, old.red, new.red),
         green: sum_after(t.green, old.green, new.green),
         blue: sum_after(t.blue, old.blue, new.blue),

@@ -15,27 +15,28 @@ ghost use Rattle.strip.specs.Lent.{LentBytes};
 ghost use Rattle.ropeinstant.specs.Call.{place, Gives};
 ghost use Rattle.ropeinstant.specs.Floats.{decoding, encoding, GivesValues};
 
-use float_decode::{FloatDecoding, FloatPixel};
-use float_encode::FloatEncoding;
+use float_decode::FloatPixel;
 use records::PIXEL_SIZE;
-use rules::{Answer, Code, Pixel, Setting};
+use rules::{Code, Pixel, RefusedAt, Setting};
 
 // An answer as C has it: its number, and its place in a word that C lends.
-fn give(a: Answer, at: &mut u64) -> u32
+fn give(a: Result<usize, RefusedAt>, at: &mut u64) -> u32
     ensures value { result ≡ (strip_result a).number }
     ensures at_after { at.new ≡ place (strip_result a) }
 {
     match a {
-        Answer::Done(n) => {
+        Ok(n) => {
             *at = n as u64;
             0
         }
-        Answer::Refused(why, k) => {
-            *at = k as u64;
-            setting::refusal_number(why) as u32
+        Err(e) => {
+            *at = e.index as u64;
+            setting::refusal_number(e.cause) as u32
         }
     }
 }
+
+// The nine functions over strips stand apart, and not one with the conversion as an argument: C links each by its own name, for the C interface.
 
 // Decoding: a strip of pixel records to one of scene records.
 #[unsafe(no_mangle)]
@@ -135,22 +136,18 @@ pub extern "C" fn ropeinstant_codes_to_floats(
 ) -> u32
     ensures { GivesValues (decoding curve width ei red green blue) floats.old result floats.new }
 {
-    let s = Setting {
-        curve: curve,
-        width: width,
-        ei: ei,
-    };
+    let s = Setting { curve, width, ei };
     let p = Pixel {
         red: Code(red),
         green: Code(green),
         blue: Code(blue),
     };
     match float_decode::decode_pixel(s, p) {
-        FloatDecoding::Pixel(f) => {
+        Ok(f) => {
             *floats = [f.red, f.green, f.blue];
             0
         }
-        FloatDecoding::Refused(number) => number as u32,
+        Err(why) => setting::refusal_number(why) as u32,
     }
 }
 
@@ -167,22 +164,14 @@ pub extern "C" fn ropeinstant_floats_to_codes(
 ) -> u32
     ensures { GivesValues (encoding curve width ei red green blue) codes.old result codes.new }
 {
-    let s = Setting {
-        curve: curve,
-        width: width,
-        ei: ei,
-    };
-    let f = FloatPixel {
-        red: red,
-        green: green,
-        blue: blue,
-    };
+    let s = Setting { curve, width, ei };
+    let f = FloatPixel { red, green, blue };
     match float_encode::encode_pixel(s, f) {
-        FloatEncoding::Pixel(p) => {
+        Ok(p) => {
             *codes = [p.red.0, p.green.0, p.blue.0];
             0
         }
-        FloatEncoding::Refused(number) => number as u32,
+        Err(why) => setting::refusal_number(why) as u32,
     }
 }
 

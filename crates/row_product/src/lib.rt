@@ -6,21 +6,15 @@ ghost use Rattle.std.specs.Prelude.{◌≡◌, ◌<◌};
 ghost use Rattle.rules.specs.Matrix.{row_product};
 ghost use Rattle.row_product.specs.Row.{Number, SmallRow, SmallRows, IsProducts, plain};
 
-// A number for each channel.
-#[derive(Clone, Copy)]
-pub struct Numbers {
-    pub red: i64,
-    pub green: i64,
-    pub blue: i64,
-}
+use rules::Rgb;
 
 // The row i of a matrix times three numbers.
 fn product(m: [[i64; 3]; 3], i: usize, x: i64, y: i64, z: i64) -> i64
     requires i_bound { i < 3 }
     requires small_row { SmallRow m i }
-    requires number { Number x }
-    requires number_2 { Number y }
-    requires number_3 { Number z }
+    requires red { Number x }
+    requires green { Number y }
+    requires blue { Number z }
     ensures { result ≡ row_product (plain m) i x y z }
 {
     let c0 = m[i][0];
@@ -29,15 +23,15 @@ fn product(m: [[i64; 3]; 3], i: usize, x: i64, y: i64, z: i64) -> i64
     c0 * x + c1 * y + c2 * z
 }
 
-// The three rows of a matrix times three numbers.
-pub fn products(m: [[i64; 3]; 3], x: i64, y: i64, z: i64) -> Numbers
+// The three rows of a matrix times three numbers. (They come one by one, in registers: docs/DECISIONS.md.)
+pub fn products(m: [[i64; 3]; 3], x: i64, y: i64, z: i64) -> Rgb<i64>
     requires small_rows { SmallRows m }
-    requires number { Number x }
-    requires number_2 { Number y }
-    requires number_3 { Number z }
+    requires red { Number x }
+    requires green { Number y }
+    requires blue { Number z }
     ensures { IsProducts m x y z result.red result.green result.blue }
 {
-    Numbers {
+    Rgb {
         red: product(m, 0, x, y, z),
         green: product(m, 1, x, y, z),
         blue: product(m, 2, x, y, z),

@@ -1,5 +1,6 @@
 -- Numbers from minus a limit to the limit, and so the check of a scene number.
 -- Assumes nothing.
+use Rattle.std.specs.Prelude.{Ok}
 use mathlib.Core.Bool.{Bool, true, false}
 use mathlib.Core.Path.{◌≡◌, refl, sym, subst}
 use Prim.Native.Nat.{ℕ, zero, suc, ◌^◌, ◌≤◌}
@@ -10,7 +11,6 @@ use lib.IntN.{ℤ, pos, nat_abs}
 use lib.Signed.{le_z}
 use Rattle.whole.specs.Parts.{minus, up, dn}
 use Rattle.whole.proofs.Reflect.{at, abs_is, one_zero, le_n-of, le_z-of}
-use Rattle.rules.specs.declared.Check.TheVariants.{Passed}
 use Rattle.rules.specs.declared.Refusal.{Refusal}
 use Rattle.rules.specs.declared.Refusal.TheVariants.{SceneOutOfRange}
 use Rattle.rules.specs.Choice.{choose, between}
@@ -42,14 +42,14 @@ module _ (limit : ℕ) (x : ℤ) where
       go false c f g e = absurd (subst T (sym e) tt)
 
 -- what a check by a test lets pass
-pub test_passed : (b : Bool) (why : Refusal) → refuse_unless b why ≡ Passed → b ≡ true
+pub test_passed : (b : Bool) (why : Refusal) → refuse_unless b why ≡ Ok tt → b ≡ true
 test_passed b why e = is_true b (passed_only b why e)
 
 -- a number that may be encoded
-pub scene_passes : (x : ℤ) → nat_abs x ≤ 2 ^ 40 → scene_check x ≡ Passed
+pub scene_passes : (x : ℤ) → nat_abs x ≤ 2 ^ 40 → scene_check x ≡ Ok tt
 unfolding scene_check
 scene_passes x h = rw (small_between (2 ^ 40) x h)
 
-pub scene_small : (x : ℤ) → scene_check x ≡ Passed → nat_abs x ≤ 2 ^ 40
+pub scene_small : (x : ℤ) → scene_check x ≡ Ok tt → nat_abs x ≤ 2 ^ 40
 unfolding scene_check
 scene_small x e = between_small (2 ^ 40) x (test_passed (between (2 ^ 40) x) SceneOutOfRange e)

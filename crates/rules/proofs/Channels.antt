@@ -1,14 +1,13 @@
 -- The checks of a record's channels, one after the other.
 -- Assumes nothing.
+use Rattle.std.specs.Prelude.{Ok}
 use mathlib.Core.Path.{◌≡◌}
 use mathlib.Core.List.{List}
 use Prim.Native.Nat.{ℕ}
-use Rattle.rules.specs.declared.Check.{Check}
-use Rattle.rules.specs.declared.Check.TheVariants.{Passed}
+use Rattle.rules.specs.Refusal.{Check, then}
 use Rattle.rules.specs.declared.Setting.{Setting}
 use Rattle.rules.specs.Setting.{code_check}
 use Rattle.rules.specs.Record.{code_bytes, channel_at, pixel_in}
-use Rattle.rules.specs.Refusal.{then}
 use Rattle.rules.proofs.Settings.{both}
 use Rattle.rules.specs.Pixels.{IsPixel}
 use Rattle.rules.specs.Conversions.{channel_checks}
@@ -21,11 +20,11 @@ each_checked a check r p q s = λ i. then (p i) (then (q i) (s i))
 
 -- where all pass, each passes
 pub record AllPass (a : ℕ) (check : ℕ → Check) (r : List ℕ) : Type 0 where
-  pub red : check (channel_at a r 0) ≡ Passed
-  pub green : check (channel_at a r 1) ≡ Passed
-  pub blue : check (channel_at a r 2) ≡ Passed
+  pub red : check (channel_at a r 0) ≡ Ok tt
+  pub green : check (channel_at a r 1) ≡ Ok tt
+  pub blue : check (channel_at a r 2) ≡ Ok tt
 
-pub all_pass : (a : ℕ) (check : ℕ → Check) (r : List ℕ) → channel_checks a check r ≡ Passed → AllPass a check r
+pub all_pass : (a : ℕ) (check : ℕ → Check) (r : List ℕ) → channel_checks a check r ≡ Ok tt → AllPass a check r
 unfolding channel_checks
 all_pass a check r e =
     let f = both (check (channel_at a r 0)) (then (check (channel_at a r 1)) (check (channel_at a r 2))) e in
@@ -33,5 +32,5 @@ all_pass a check r e =
     record { red = f.0; green = g.0; blue = g.1 }
 
 -- the codes of a record that pass are a pixel
-pub codes_pixel : (s : Setting) (r : List ℕ) → channel_checks code_bytes (code_check s) r ≡ Passed → IsPixel s (pixel_in r)
+pub codes_pixel : (s : Setting) (r : List ℕ) → channel_checks code_bytes (code_check s) r ≡ Ok tt → IsPixel s (pixel_in r)
 codes_pixel s r e = let p = all_pass code_bytes (code_check s) r e in record { red = p.red; green = p.green; blue = p.blue }

@@ -1,6 +1,7 @@
 -- The codes of a setting and their steps: a code that passes is the code of its step, and a step's code passes. Here only `laid` sees which
 -- codes a curve and a width have; what follows is of any distance between codes, and any first code that it divides.
 -- Assumes nothing.
+use Rattle.std.specs.Prelude.{Ok}
 use mathlib.Core.Bool.{Bool, true, false}
 use mathlib.Core.Path.{◌≡◌, refl, ap, ◌∙◌}
 use Prim.Native.Nat.{ℕ, ◌+◌, ◌-◌, ◌*◌, ◌/◌, ◌%◌, ◌^◌, ◌≤◌, ◌<◌}
@@ -11,11 +12,9 @@ use lib.Dec.{eqb, leb, eqb→eq, leb→le, lit<}
 use Rattle.rules.specs.declared.Setting.{Setting}
 use Rattle.rules.specs.declared.CurveName.{CurveName}
 use Rattle.rules.specs.declared.CurveName.TheVariants.{LogC2, LogC3, LogC4, Unknown}
-use Rattle.rules.specs.declared.Check.{Check}
-use Rattle.rules.specs.declared.Check.TheVariants.{Passed}
+use Rattle.rules.specs.Refusal.{Check, then, refuse_unless}
 use Rattle.rules.specs.declared.Refusal.TheVariants.{CodeNotDivisible, CodeAboveTop, CodeBelowFirst}
 use Rattle.rules.specs.Choice.{choose}
-use Rattle.rules.specs.Refusal.{then, refuse_unless}
 use Rattle.rules.specs.Setting.{Codes, named, codes_to_top, legal_codes, recorder_codes, codes_at, codes_of, last_of, code_at, step_of, code_check}
 use Rattle.rules.proofs.Settings.{passed_only, both}
 use Rattle.rules.proofs.TopCode.{top_fits}
@@ -51,7 +50,7 @@ pub record Passing (s : Setting) (n : ℕ) : Type 0 where
   pub from_first : (codes_of s).first ≤ n
   pub to_last : n ≤ code_at s (last_of s)
 
-pub passing : (s : Setting) (n : ℕ) → code_check s n ≡ Passed → Passing s n
+pub passing : (s : Setting) (n : ℕ) → code_check s n ≡ Ok tt → Passing s n
 passing s n e =
     record {
       divisible = eqb→eq (n % (codes_of s).apart) 0 (passed_only divisible CodeNotDivisible b.0);
@@ -71,10 +70,10 @@ passing s n e =
     later : Check
     later = then (refuse_unless first CodeBelowFirst) (refuse_unless last CodeAboveTop)
 
-    b : (refuse_unless divisible CodeNotDivisible ≡ Passed) × (later ≡ Passed)
+    b : (refuse_unless divisible CodeNotDivisible ≡ Ok tt) × (later ≡ Ok tt)
     b = both (refuse_unless divisible CodeNotDivisible) later e
 
-    c : (refuse_unless first CodeBelowFirst ≡ Passed) × (refuse_unless last CodeAboveTop ≡ Passed)
+    c : (refuse_unless first CodeBelowFirst ≡ Ok tt) × (refuse_unless last CodeAboveTop ≡ Ok tt)
     c = both (refuse_unless first CodeBelowFirst) (refuse_unless last CodeAboveTop) b.1
 
 -- ---- codes and steps
@@ -87,18 +86,18 @@ from_start : (s : Setting) (n : ℕ) → Passing s n → step_of s n * (codes_of
 from_start s n p =
     div-mul_cancel (codes_of s).apart (dvd-sub (codes_of s).apart (dvd_of_mod-eq-zero (codes_of s).apart p.divisible) (dvd_of_mod-eq-zero (codes_of s).apart (laid_of s).divisible))
 
-pub code_of_step : (s : Setting) (n : ℕ) → code_check s n ≡ Passed → code_at s (step_of s n) ≡ n
+pub code_of_step : (s : Setting) (n : ℕ) → code_check s n ≡ Ok tt → code_at s (step_of s n) ≡ n
 code_of_step s n e =
     let p = passing s n e in
     ap (λ (m : ℕ). (codes_of s).first + m) (from_start s n p) ∙ add-sub_of_le p.from_first
 
-pub code_passed : (s : Setting) (n : ℕ) → code_check s n ≡ Passed → step_of s n ≤ last_of s
+pub code_passed : (s : Setting) (n : ℕ) → code_check s n ≡ Ok tt → step_of s n ≤ last_of s
 code_passed s n e = div-le_of_le-mul (codes_of s).apart (below (last_of s * (codes_of s).apart) ((codes_of s).apart * last_of s) (mul_comm (last_of s) (codes_of s).apart) (passing s n e).to_last)
   where
     below : (a b : ℕ) → a ≡ b → n ≤ (codes_of s).first + a → n - (codes_of s).first ≤ b
     below a b e h = omega arith
 
-pub code_passes : (s : Setting) (i : ℕ) → i ≤ last_of s → code_check s (code_at s i) ≡ Passed
+pub code_passes : (s : Setting) (i : ℕ) → i ≤ last_of s → code_check s (code_at s i) ≡ Ok tt
 code_passes s i h = rw (eq-eqb (code_at s i % (codes_of s).apart) 0 divisible, le-leb (codes_of s).first (code_at s i) (omega arith), le-leb (code_at s i) (code_at s (last_of s)) up)
   where
     divisible : code_at s i % (codes_of s).apart ≡ 0
@@ -111,7 +110,7 @@ code_passes s i h = rw (eq-eqb (code_at s i % (codes_of s).apart) 0 divisible, l
         more a b h = omega arith
 
 -- a later code has a later step, and the other way round
-pub step_rises : (s : Setting) (m n : ℕ) → code_check s m ≡ Passed → code_check s n ≡ Passed → m < n → step_of s m < step_of s n
+pub step_rises : (s : Setting) (m n : ℕ) → code_check s m ≡ Ok tt → code_check s n ≡ Ok tt → m < n → step_of s m < step_of s n
 step_rises s m n p q h =
     lt_of_mul-lt-mul_right (codes_of s).apart (less (step_of s m * (codes_of s).apart) (step_of s n * (codes_of s).apart) (from_start s m (passing s m p)) (from_start s n (passing s n q)) (passing s m p).from_first)
   where

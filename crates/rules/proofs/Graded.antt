@@ -1,5 +1,6 @@
 -- 02, item 7: REFUSAL 14 and its place, and the refusals that the graded road never gives.
 -- Assumes nothing.
+use Rattle.std.specs.Prelude.{Err, Ok}
 use mathlib.Core.Bool.{Bool, true, false}
 use mathlib.Core.List.{List}
 use mathlib.Core.Logic.{◌↔◌, inl, inr}
@@ -9,11 +10,10 @@ use native.Mathlib.Omega.{arith}
 use lib.IntN.{ℤ, pos, nat_abs}
 use Rattle.whole.specs.Parts.{minus}
 use Rattle.whole.proofs.Apart.{less_or_not}
-use Rattle.rules.specs.declared.Check.TheVariants.{Passed, Refused}
 use Rattle.rules.specs.declared.Refusal.TheVariants.{GradedOutOfRange}
-use Rattle.rules.specs.declared.Scenes.{Scenes}
+use Rattle.rules.specs.Triples.{Scenes}
 use Rattle.rules.specs.declared.Setting.{Setting}
-use Rattle.rules.specs.declared.Triple.{Triple}
+use Rattle.rules.specs.Triples.{Triple}
 use Rattle.rules.specs.Choice.{between}
 use Rattle.rules.specs.Refusal.{number_of_check, then, refuse_unless}
 use Rattle.rules.specs.Setting.{setting_check, aces_check}
@@ -59,38 +59,38 @@ module _ (scenesFor : Setting → Triple → Scenes) (number : Setting → ℕ �
       record { curve_first = refl; width_first = refl; ei_first = refl; matrix_first = refl; ends_pass = refl; red_beyond = refl; green_beyond = refl; blue_beyond = refl }
 
 -- ---- a number that passes
-graded_passes : (a : ℤ) → nat_abs a ≤ graded_limit → graded_check a ≡ Passed
+graded_passes : (a : ℤ) → nat_abs a ≤ graded_limit → graded_check a ≡ Ok tt
 unfolding graded_check
 graded_passes a h = ap (λ (b : Bool). refuse_unless b GradedOutOfRange) (small_between graded_limit a h)
 
-graded_passed : (a : ℤ) → graded_check a ≡ Passed → nat_abs a ≤ graded_limit
+graded_passed : (a : ℤ) → graded_check a ≡ Ok tt → nat_abs a ≤ graded_limit
 unfolding graded_check
 graded_passed a e = between_small graded_limit a (test_passed (between graded_limit a) GradedOutOfRange e)
 
 -- 14 EXACTLY: a number is refused by it where it is beyond the limit, on either side
-pub fourteen_exactly : (a : ℤ) → (graded_check a ≡ Refused GradedOutOfRange) ↔ (graded_limit < nat_abs a)
+pub fourteen_exactly : (a : ℤ) → (graded_check a ≡ Err GradedOutOfRange) ↔ (graded_limit < nat_abs a)
 unfolding graded_check
 fourteen_exactly a = (forth, back)
   where
-    forth : graded_check a ≡ Refused GradedOutOfRange → graded_limit < nat_abs a
+    forth : graded_check a ≡ Err GradedOutOfRange → graded_limit < nat_abs a
     forth e = elim (less_or_not graded_limit (nat_abs a)) [ inl l ↦ l | inr h ↦ refused_never (sym e ∙ graded_passes a h) ]
 
-    back : graded_limit < nat_abs a → graded_check a ≡ Refused GradedOutOfRange
+    back : graded_limit < nat_abs a → graded_check a ≡ Err GradedOutOfRange
     back h = go (between graded_limit a) refl
       where
-        go : (b : Bool) → between graded_limit a ≡ b → refuse_unless b GradedOutOfRange ≡ Refused GradedOutOfRange
+        go : (b : Bool) → between graded_limit a ≡ b → refuse_unless b GradedOutOfRange ≡ Err GradedOutOfRange
         go true e = absurd (omega (arith, graded_passed a (ap (λ (b : Bool). refuse_unless b GradedOutOfRange) e)))
         go false e = refl
 
 -- of three numbers
-pub all_graded : (a : Triple) → graded_checks a ≡ Passed → WithinLimits a
+pub all_graded : (a : Triple) → graded_checks a ≡ Ok tt → WithinLimits a
 unfolding graded_checks
 all_graded a e =
     let r = both (graded_check a.red.0) (then (graded_check a.green.0) (graded_check a.blue.0)) e in
     let g = both (graded_check a.green.0) (graded_check a.blue.0) r.1 in
     record { red = graded_passed a.red.0 r.0; green = graded_passed a.green.0 g.0; blue = graded_passed a.blue.0 g.1 }
 
-pub graded_all : (a : Triple) → WithinLimits a → graded_checks a ≡ Passed
+pub graded_all : (a : Triple) → WithinLimits a → graded_checks a ≡ Ok tt
 unfolding graded_checks
 graded_all a h = rw (graded_passes a.red.0 h.red, graded_passes a.green.0 h.green, graded_passes a.blue.0 h.blue)
 

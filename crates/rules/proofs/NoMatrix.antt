@@ -1,5 +1,6 @@
 -- 02, item 3, REFUSAL 12: a setting is refused by it exactly where it is valid and its curve is 2, and only in a conversion to or from ACES.
 -- Assumes nothing.
+use Rattle.std.specs.Prelude.{Err, Ok}
 use mathlib.Core.Bool.{Bool, false}
 use mathlib.Core.List.{List, [], ◌∷◌}
 use mathlib.Core.Logic.{◌↔◌}
@@ -9,19 +10,17 @@ use native.Mathlib.Omega.{arith}
 use lib.Dec.{T, eqb, leb, lit<}
 use lib.Ieee.{Float}
 use lib.IntN.{ℤ, pos}
-use Rattle.rules.specs.declared.Check.{Check}
-use Rattle.rules.specs.declared.Check.TheVariants.{Passed, Refused}
+use Rattle.rules.specs.Refusal.{Check, number_of_check, then, refuse_unless}
 use Rattle.rules.specs.declared.CurveName.{CurveName}
 use Rattle.rules.specs.declared.CurveName.TheVariants.{LogC2, LogC3, LogC4, Unknown}
-use Rattle.rules.specs.declared.Pixel.{Pixel}
+use Rattle.rules.specs.Triples.{Pixel}
 use Rattle.rules.specs.declared.Refusal.{Refusal}
 use Rattle.rules.specs.declared.Refusal.TheVariants.{CodeAboveTop, CodeBelowFirst, CodeNotDivisible, SceneOutOfRange, FloatNotFinite, FloatOutOfRange, NoMatrix}
-use Rattle.rules.specs.declared.Scenes.{Scenes}
+use Rattle.rules.specs.Triples.{Scenes}
 use Rattle.rules.specs.declared.Setting.{Setting}
-use Rattle.rules.specs.declared.Triple.{Triple}
+use Rattle.rules.specs.Triples.{Triple}
 use Rattle.rules.specs.Pixels.{pixel, triple, codes_check}
 use Rattle.rules.specs.Choice.{between}
-use Rattle.rules.specs.Refusal.{number_of_check, then, refuse_unless}
 use Rattle.rules.specs.Result.{single}
 use Rattle.rules.specs.Setting.{named, has_matrix, codes_of, last_of, code_at, setting_check, aces_check, code_check, Valid}
 use Rattle.rules.specs.Matrix.{no_matrix, matrix_for}
@@ -77,14 +76,14 @@ twelve_exactly s = (forth, back)
     forth n = go (setting_check s) refl n
       where
         go : (x : Check) → setting_check s ≡ x → number_of_check (then x (refuse_unless (has_matrix (named s.curve)) NoMatrix)) ≡ 12 → Valid s × (s.curve ≡ 2)
-        go Passed e n = (e, is_two e (named s.curve) refl n)
-        go (Refused why) e n = absurd (setting_never 12 later s (ap number_of_check e ∙ n))
+        go (Ok tt) e n = (e, is_two e (named s.curve) refl n)
+        go (Err why) e n = absurd (setting_never 12 later s (ap number_of_check e ∙ n))
 
     back : Valid s × (s.curve ≡ 2) → number_of_check (aces_check s) ≡ 12
     back h = rw (h.0, h.1)
 
 -- ---- IN ITS PLACE: a setting that 3, 4 or 5 refuses is refused by that
-pub setting_first : (s : Setting) (why : Refusal) → setting_check s ≡ Refused why → aces_check s ≡ Refused why
+pub setting_first : (s : Setting) (why : Refusal) → setting_check s ≡ Err why → aces_check s ≡ Err why
 unfolding aces_check
 setting_first s why e = rw e
 
@@ -141,24 +140,24 @@ in_place number =
 
 -- every record of a valid setting of curve 2 is refused by it, whatever it holds besides
 module _ (number : Setting → ℕ → ℤ) (s : Setting) (v : Valid s) (two : s.curve ≡ 2) where
-  no_matrix_lem : aces_check s ≡ Refused NoMatrix
+  no_matrix_lem : aces_check s ≡ Err NoMatrix
   unfolding aces_check
   no_matrix_lem = rw (v, two)
 
-  pub pixel_refused : (r : List ℕ) → setting_of r ≡ s → record_check (pixel_to_aces number) r ≡ Refused NoMatrix
+  pub pixel_refused : (r : List ℕ) → setting_of r ≡ s → record_check (pixel_to_aces number) r ≡ Err NoMatrix
   pixel_refused r e = rw (e, no_matrix_lem)
 
-  pub aces_refused : (e : ℕ) (r : List ℕ) → setting_of r ≡ s → record_check (aces_to_pixel number e) r ≡ Refused NoMatrix
+  pub aces_refused : (e : ℕ) (r : List ℕ) → setting_of r ≡ s → record_check (aces_to_pixel number e) r ≡ Err NoMatrix
   aces_refused e r h = rw (h, no_matrix_lem)
 
-  pub written_half_refused : (r : List ℕ) → setting_of r ≡ s → record_check aces_to_half r ≡ Refused NoMatrix
+  pub written_half_refused : (r : List ℕ) → setting_of r ≡ s → record_check aces_to_half r ≡ Err NoMatrix
   written_half_refused r e = rw (e, no_matrix_lem)
 
-  pub read_half_refused : (r : List ℕ) → setting_of r ≡ s → record_check half_to_aces r ≡ Refused NoMatrix
+  pub read_half_refused : (r : List ℕ) → setting_of r ≡ s → record_check half_to_aces r ≡ Err NoMatrix
   read_half_refused r e = rw (e, no_matrix_lem)
 
   pub graded_refused : (scenesFor : Setting → Triple → Scenes) (r : List ℕ) → setting_of r ≡ s
-      → (record_check (graded_to_scene scenesFor) r ≡ Refused NoMatrix) × (record_check (graded_to_pixel scenesFor number) r ≡ Refused NoMatrix)
+      → (record_check (graded_to_scene scenesFor) r ≡ Err NoMatrix) × (record_check (graded_to_pixel scenesFor number) r ≡ Err NoMatrix)
   graded_refused scenesFor r e = (rw (e, no_matrix_lem), rw (e, no_matrix_lem))
 
   pub graded_call_refused : (scenesFor : Setting → Triple → Scenes) (a : Triple) → (graded_by scenesFor s a).number ≡ 12

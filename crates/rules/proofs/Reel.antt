@@ -1,6 +1,7 @@
 -- 02, item 9, A REEL IN MEMORY, whatever the numbers of the codes: after any list of calls it holds what the accepted calls say, and each sum is
 -- the sum of the numbers of the records held.
 -- Assumes nothing.
+use Rattle.std.specs.Prelude.{Err, Ok}
 use mathlib.Core.Bool.{Bool, true, false}
 use mathlib.Core.List.{List, [], ◌∷◌, ◌++◌, append-nil}
 use mathlib.Core.Path.{◌≡◌, refl, sym, ap, ap₂, ◌∙◌}
@@ -11,20 +12,14 @@ use lib.Dec.{leb, lit<}
 use lib.IntN.{ℤ, nat_abs, ◌+ℤ◌, ◌-ℤ◌}
 use lib.ListN.{length, take, drop, drop_of_length-le}
 use Rattle.whole.proofs.Reflect.{abs_is}
-use Rattle.rules.specs.declared.Check.{Check}
-use Rattle.rules.specs.declared.Check.TheVariants.{Passed, Refused}
-use Rattle.rules.specs.declared.ReelAnswer as answer
+use Rattle.rules.specs.Refusal.{Check, number_of_check}
 use Rattle.rules.specs.declared.Refusal.{Refusal}
-use Rattle.rules.specs.declared.Scenes.{Scenes}
+use Rattle.rules.specs.Triples.{Scenes}
 use Rattle.rules.specs.declared.Setting.{Setting}
 use Rattle.rules.specs.declared.Totals.{Totals}
 use Rattle.rules.specs.Choice.{choose}
 use Rattle.rules.specs.Record.{to_bits, of_bits, setting_of, channel_at, code_bytes, pixel_size}
-use Rattle.rules.specs.Reel.{Call, append, replace, drop_last, WholeRecord, call_check, if_passed, changed, after_call, fold, records_after}
-use Rattle.rules.specs.Reel.{Reel, reel_of, reel_most, room_in, empty_reel, reel_check, with_record, strip_after_call, totals_with, totals_after_call}
-use Rattle.rules.specs.Reel.{sum_bytes, sum_after, sum_of, scene_at, no_scenes, metered, TrueSums}
-use Rattle.rules.specs.Reel.{answer_to, reel_answer, reel_after, reel_after_all, reel_result}
-use Rattle.rules.specs.Refusal.{number_of_check}
+use Rattle.rules.specs.Reel.{Call, append, replace, drop_last, WholeRecord, call_check, if_passed, changed, after_call, fold, records_after, Reel, reel_of, reel_most, room_in, empty_reel, reel_check, with_record, strip_after_call, totals_with, totals_after_call, sum_bytes, sum_after, sum_of, scene_at, no_scenes, metered, TrueSums, answer_to, reel_answer, reel_after, reel_after_all, reel_result}
 use Rattle.rules.specs.Result.{Each}
 use Rattle.rules.specs.Setting.{code_check, ValidForAces}
 use Rattle.rules.specs.Strip.{records, record_at}
@@ -58,22 +53,22 @@ module _ (number : Setting → ℕ → ℤ) (reel : Reel) where
   reel_if c x = if_passed x (reel_of (strip_after_call reel c) (totals_after_call number reel c)) reel
 
   -- A REFUSED CALL changes nothing
-  pub refused_keeps : (c : Call) (why : Refusal) → reel_answer number reel c ≡ answer.ReelAnswer.Refused why → reel_after number reel c ≡ reel
+  pub refused_keeps : (c : Call) (why : Refusal) → reel_answer number reel c ≡ Err why → reel_after number reel c ≡ reel
   unfolding reel_answer reel_after
   refused_keeps c why e = go (reel_check reel c) e
     where
-      go : (x : Check) → answer_to x (totals_after_call number reel c) ≡ answer.ReelAnswer.Refused why → reel_if c x ≡ reel
-      go Passed f = let z : ◌≡◌ {A = ℕ} 0 1 = cc in absurd (omega arith)
-      go (Refused why) f = refl
+      go : (x : Check) → answer_to x (totals_after_call number reel c) ≡ Err why → reel_if c x ≡ reel
+      go (Ok tt) f = let z : ◌≡◌ {A = ℕ} 0 1 = cc in absurd (omega arith)
+      go (Err why) f = refl
 
   -- one that is accepted answers what is then kept
-  pub done_counts : (c : Call) (t : Totals) → reel_answer number reel c ≡ answer.ReelAnswer.Done t → t ≡ (reel_after number reel c).totals
+  pub done_counts : (c : Call) (t : Totals) → reel_answer number reel c ≡ Ok t → t ≡ (reel_after number reel c).totals
   unfolding reel_answer reel_after
   done_counts c t e = go (reel_check reel c) e
     where
-      go : (x : Check) → answer_to x (totals_after_call number reel c) ≡ answer.ReelAnswer.Done t → t ≡ (reel_if c x).totals
-      go Passed f = cc
-      go (Refused why) f = let z : ◌≡◌ {A = ℕ} 0 1 = cc in absurd (omega arith)
+      go : (x : Check) → answer_to x (totals_after_call number reel c) ≡ Ok t → t ≡ (reel_if c x).totals
+      go (Ok tt) f = cc
+      go (Err why) f = let z : ◌≡◌ {A = ℕ} 0 1 = cc in absurd (omega arith)
 
   -- the number of an answer is that of its check
   pub answer_number_lem : (c : Call) → (reel_result (reel_answer number reel c)).number ≡ number_of_check (reel_check reel c)
@@ -81,8 +76,8 @@ module _ (number : Setting → ℕ → ℤ) (reel : Reel) where
   answer_number_lem c = go (reel_check reel c)
     where
       go : (x : Check) → (reel_result (answer_to x (totals_after_call number reel c))).number ≡ number_of_check x
-      go Passed = refl
-      go (Refused why) = refl
+      go (Ok tt) = refl
+      go (Err why) = refl
 
   -- NEVER MORE than 4,096 are counted
   count_after : (c : Call) → reel.totals.count ≤ reel_most → (reel_after number reel c).totals.count ≤ reel_most
@@ -90,12 +85,12 @@ module _ (number : Setting → ℕ → ℤ) (reel : Reel) where
   count_after c h = go c (reel_check reel c) refl
     where
       go : (c : Call) (x : Check) → reel_check reel c ≡ x → (reel_if c x).totals.count ≤ reel_most
-      go (append r) Passed e = omega (arith, (accepted_append (room_in reel.strip) reel.totals.count r e).0, (room_in_lem reel.strip).most)
-      go (replace i r) Passed e = h
-      go drop_last Passed e = omega arith
-      go (append r) (Refused why) e = h
-      go (replace i r) (Refused why) e = h
-      go drop_last (Refused why) e = h
+      go (append r) (Ok tt) e = omega (arith, (accepted_append (room_in reel.strip) reel.totals.count r e).0, (room_in_lem reel.strip).most)
+      go (replace i r) (Ok tt) e = h
+      go drop_last (Ok tt) e = omega arith
+      go (append r) (Err why) e = h
+      go (replace i r) (Err why) e = h
+      go drop_last (Err why) e = h
 
 pub count_all : (number : Setting → ℕ → ℤ) (reel : Reel) → reel.totals.count ≤ reel_most → (calls : List Call)
     → (reel_after_all number reel calls).totals.count ≤ reel_most
@@ -161,7 +156,7 @@ module _ (number : Setting → ℕ → ℤ) where
 
 -- ---- the sums after a call, where none of the numbers is beyond 2 ^ 40
 abbrev pub Small : (number : Setting → ℕ → ℤ) → Type 0
-Small number = (s : Setting) → ValidForAces s → (n : ℕ) → code_check s n ≡ Passed → nat_abs (number s n) ≤ 2 ^ 40
+Small number = (s : Setting) → ValidForAces s → (n : ℕ) → code_check s n ≡ Ok tt → nat_abs (number s n) ≤ 2 ^ 40
 
 -- records that are kept, in which some take the place of others
 record Change (room : ℕ) (rs rs' old new : List (List ℕ)) : Type 0 where
@@ -240,7 +235,7 @@ module _ (number : Setting → ℕ → ℤ) (small : Small number) where
     abbrev accepted : Call → Reel
     accepted c = reel_of (strip_after_call reel c) (totals_after_call number reel c)
 
-    module _ (c : Call) (e : call_check room (length rs) c ≡ Passed) where
+    module _ (c : Call) (e : call_check room (length rs) c ≡ Ok tt) where
       kept_after : Kept room (changed rs c)
       kept_after = kept_changed room rs s.kept c e
 
@@ -253,7 +248,7 @@ module _ (number : Setting → ℕ → ℤ) (small : Small number) where
           most : (xs : List (List ℕ)) → Kept room xs → Kept reel_most xs
           most xs k = record { fits = omega (arith, k.fits, in_strip.most); pass = k.pass }
 
-    sound_append : (r : List ℕ) → length r ≡ pixel_size → call_check room (length rs) (append r) ≡ Passed
+    sound_append : (r : List ℕ) → length r ≡ pixel_size → call_check room (length rs) (append r) ≡ Ok tt
         → Sound number room (changed rs (append r)) (accepted (append r))
     sound_append r er e =
         let a = accepted_append room (length rs) r e in
@@ -266,7 +261,7 @@ module _ (number : Setting → ℕ → ℤ) (small : Small number) where
           sums = sums_after c s.sums (suc count) (adds_none number) (adds_one number r a.1);
         }
 
-    sound_replace : (i : ℕ) (r : List ℕ) → length r ≡ pixel_size → call_check room (length rs) (replace i r) ≡ Passed
+    sound_replace : (i : ℕ) (r : List ℕ) → length r ≡ pixel_size → call_check room (length rs) (replace i r) ≡ Ok tt
         → Sound number room (changed rs (replace i r)) (accepted (replace i r))
     sound_replace i r er e =
         let a = accepted_replace room (length rs) i r e in
@@ -280,7 +275,7 @@ module _ (number : Setting → ℕ → ℤ) (small : Small number) where
           sums = sums_after c s.sums count (adds_one number old (held_passes i a.0)) (adds_one number r a.1);
         }
 
-    sound_drop : call_check room (length rs) drop_last ≡ Passed → Sound number room (changed rs drop_last) (accepted drop_last)
+    sound_drop : call_check room (length rs) drop_last ≡ Ok tt → Sound number room (changed rs drop_last) (accepted drop_last)
     sound_drop e =
         let last = length rs - 1 in
         let old = record_at pixel_size last strip in
@@ -295,7 +290,7 @@ module _ (number : Setting → ℕ → ℤ) (small : Small number) where
           sums = rw counted (sums_after c s.sums last (adds_one number old (held_passes last below)) (adds_none number));
         }
 
-    sound_accepted : (c : Call) → WholeRecord c → call_check room (length rs) c ≡ Passed → Sound number room (changed rs c) (accepted c)
+    sound_accepted : (c : Call) → WholeRecord c → call_check room (length rs) c ≡ Ok tt → Sound number room (changed rs c) (accepted c)
     sound_accepted (append r) w e = sound_append r w e
     sound_accepted (replace i r) w e = sound_replace i r w e
     sound_accepted drop_last w e = sound_drop e
@@ -305,8 +300,8 @@ module _ (number : Setting → ℕ → ℤ) (small : Small number) where
     sound_call c w = rw (sound_check number s c) (go (call_check room (length rs) c) refl)
       where
         go : (x : Check) → call_check room (length rs) c ≡ x → Sound number room (if_passed x (changed rs c) rs) (if_passed x (accepted c) reel)
-        go Passed e = sound_accepted c w e
-        go (Refused why) e = s
+        go (Ok tt) e = sound_accepted c w e
+        go (Err why) e = s
 
   -- ---- ANY LIST OF CALLS
   pub sound_all : (room : ℕ) (rs : List (List ℕ)) (reel : Reel) → Sound number room rs reel → (calls : List Call) → Each WholeRecord calls

@@ -1,12 +1,12 @@
 -- 02, item 9, THE CHECKS OF A CALL: their order, and what is so where they pass.
 -- Assumes nothing.
+use Rattle.std.specs.Prelude.{Err, Ok}
 use mathlib.Core.List.{List}
 use mathlib.Core.Path.{◌≡◌, refl}
 use Prim.Native.Nat.{ℕ, zero, suc, ◌-◌, ◌≤◌, ◌<◌}
 use native.Mathlib.Omega.{arith}
 use borrow.Author.Tests.{lt-ltb, le-ltb}
 use lib.Dec.{ltb, ltb→lt}
-use Rattle.rules.specs.declared.Check.TheVariants.{Passed, Refused}
 use Rattle.rules.specs.declared.Refusal.TheVariants.{ReelFull, NotHeld}
 use Rattle.rules.specs.Conversions.{channel_checks}
 use Rattle.rules.specs.Pixels.{pixel}
@@ -44,13 +44,13 @@ pub record InPlace : Type 0 where
   pub eleven : appended (pixel_of 4 140 0 255) ≡ 11
   pub passes : appended (pixel_of 3 12 800 4095) ≡ 0
   -- the same for any room and count
-  pub full_first : (room count : ℕ) (r : List ℕ) → room ≤ count → call_check room count (append r) ≡ Refused ReelFull
+  pub full_first : (room count : ℕ) (r : List ℕ) → room ≤ count → call_check room count (append r) ≡ Err ReelFull
   pub append_then : (room count : ℕ) (r : List ℕ) → count < room → call_check room count (append r) ≡ meter_check r
-  pub not_held_first : (room count i : ℕ) (r : List ℕ) → count ≤ i → call_check room count (replace i r) ≡ Refused NotHeld
-  pub at_the_count : (room count : ℕ) (r : List ℕ) → call_check room count (replace count r) ≡ Refused NotHeld
+  pub not_held_first : (room count i : ℕ) (r : List ℕ) → count ≤ i → call_check room count (replace i r) ≡ Err NotHeld
+  pub at_the_count : (room count : ℕ) (r : List ℕ) → call_check room count (replace count r) ≡ Err NotHeld
   pub replace_then : (room count i : ℕ) (r : List ℕ) → i < count → i < room → call_check room count (replace i r) ≡ meter_check r
-  pub drop_of_none : (room : ℕ) → call_check room 0 drop_last ≡ Refused NotHeld
-  pub drop_passes : (room count : ℕ) → 0 < count → count ≤ room → call_check room count drop_last ≡ Passed
+  pub drop_of_none : (room : ℕ) → call_check room 0 drop_last ≡ Err NotHeld
+  pub drop_passes : (room count : ℕ) → 0 < count → count ≤ room → call_check room count drop_last ≡ Ok tt
 
 pub in_place : InPlace
 unfolding call_check meter_check setting_check aces_check codes_of channel_checks record_of bytes_of digits value
@@ -82,40 +82,40 @@ in_place =
 -- ---- where a record's checks pass, its setting is valid for ACES and so is each of its codes
 pub record Passing (r : List ℕ) : Type 0 where
   pub setting : ValidForAces (setting_of r)
-  pub code : (channel : ℕ) → channel < 3 → code_check (setting_of r) (channel_at code_bytes r channel) ≡ Passed
+  pub code : (channel : ℕ) → channel < 3 → code_check (setting_of r) (channel_at code_bytes r channel) ≡ Ok tt
 
-pub passing : (r : List ℕ) → meter_check r ≡ Passed → Passing r
+pub passing : (r : List ℕ) → meter_check r ≡ Ok tt → Passing r
 unfolding meter_check
 passing r e = record { setting = b.0; code = code }
   where
-    b : (aces_check (setting_of r) ≡ Passed) × (channel_checks code_bytes (code_check (setting_of r)) r ≡ Passed)
+    b : (aces_check (setting_of r) ≡ Ok tt) × (channel_checks code_bytes (code_check (setting_of r)) r ≡ Ok tt)
     b = both (aces_check (setting_of r)) (channel_checks code_bytes (code_check (setting_of r)) r) e
 
     c : AllPass code_bytes (code_check (setting_of r)) r
     c = all_pass code_bytes (code_check (setting_of r)) r b.1
 
-    code : (i : ℕ) → i < 3 → code_check (setting_of r) (channel_at code_bytes r i) ≡ Passed
+    code : (i : ℕ) → i < 3 → code_check (setting_of r) (channel_at code_bytes r i) ≡ Ok tt
     code zero h = c.red
     code (suc zero) h = c.green
     code (suc (suc zero)) h = c.blue
     code (suc (suc (suc i))) h = absurd (omega arith)
 
 -- ---- where a call's checks pass
-pub accepted_append : (room count : ℕ) (r : List ℕ) → call_check room count (append r) ≡ Passed → (count < room) × (meter_check r ≡ Passed)
+pub accepted_append : (room count : ℕ) (r : List ℕ) → call_check room count (append r) ≡ Ok tt → (count < room) × (meter_check r ≡ Ok tt)
 unfolding call_check
 accepted_append room count r e =
     let b = both (refuse_unless (ltb count room) ReelFull) (meter_check r) e in
     (ltb→lt count room (passed_only (ltb count room) ReelFull b.0), b.1)
 
-held_below : (room count i : ℕ) → refuse_unless (held room count i) NotHeld ≡ Passed → i < count
+held_below : (room count i : ℕ) → refuse_unless (held room count i) NotHeld ≡ Ok tt → i < count
 held_below room count i e = ltb→lt i count (first (ltb i count) (ltb i room) (passed_only (held room count i) NotHeld e))
 
-pub accepted_replace : (room count i : ℕ) (r : List ℕ) → call_check room count (replace i r) ≡ Passed → (i < count) × (meter_check r ≡ Passed)
+pub accepted_replace : (room count i : ℕ) (r : List ℕ) → call_check room count (replace i r) ≡ Ok tt → (i < count) × (meter_check r ≡ Ok tt)
 unfolding call_check
 accepted_replace room count i r e =
     let b = both (refuse_unless (held room count i) NotHeld) (meter_check r) e in
     (held_below room count i b.0, b.1)
 
-pub accepted_drop : (room count : ℕ) → call_check room count drop_last ≡ Passed → count - 1 < count
+pub accepted_drop : (room count : ℕ) → call_check room count drop_last ≡ Ok tt → count - 1 < count
 unfolding call_check
 accepted_drop room count e = held_below room count (count - 1) e

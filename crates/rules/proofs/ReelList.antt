@@ -1,12 +1,12 @@
 -- 02, item 9, A REEL AS A LIST of records: after any list of calls there are no more than there is room for, and each passes its checks.
 -- Assumes nothing.
+use Rattle.std.specs.Prelude.{Err, Ok}
 use mathlib.Core.List.{List, [], ◌∷◌, ◌++◌}
 use mathlib.Core.Path.{◌≡◌, refl, ap}
 use Prim.Native.Nat.{ℕ, zero, suc, ◌-◌, ◌≤◌}
 use native.Mathlib.Omega.{arith}
 use lib.ListN.{length, take, drop, length-append, length-take, length-drop}
-use Rattle.rules.specs.declared.Check.{Check}
-use Rattle.rules.specs.declared.Check.TheVariants.{Passed, Refused}
+use Rattle.rules.specs.Refusal.{Check}
 use Rattle.rules.specs.Reel.{Call, append, replace, drop_last, meter_check, call_check, if_passed, changed, after_call, fold}
 use Rattle.rules.specs.Result.{Each}
 use Rattle.rules.proofs.ReelChecks.{accepted_append, accepted_replace}
@@ -46,14 +46,14 @@ module _ {A : Type 0} (P : A → Type 0) where
 
 -- ---- what is kept
 abbrev pub Passes : List ℕ → Type 0
-Passes r = meter_check r ≡ Passed
+Passes r = meter_check r ≡ Ok tt
 
 pub record Kept (room : ℕ) (rs : List (List ℕ)) : Type 0 where
   pub fits : length rs ≤ room
   pub pass : Each Passes rs
 
 module _ (room : ℕ) (rs : List (List ℕ)) (k : Kept room rs) where
-  pub kept_changed : (c : Call) → call_check room (length rs) c ≡ Passed → Kept room (changed rs c)
+  pub kept_changed : (c : Call) → call_check room (length rs) c ≡ Ok tt → Kept room (changed rs c)
   kept_changed (append r) e =
       let a = accepted_append room (length rs) r e in
       record { fits = rw length-append (omega (arith, a.0)); pass = each_append Passes rs (r ∷ []) k.pass (a.1, tt) }
@@ -72,8 +72,8 @@ module _ (room : ℕ) (rs : List (List ℕ)) (k : Kept room rs) where
   kept_call c = go (call_check room (length rs) c) refl
     where
       go : (x : Check) → call_check room (length rs) c ≡ x → Kept room (if_passed x (changed rs c) rs)
-      go Passed e = kept_changed c e
-      go (Refused why) e = k
+      go (Ok tt) e = kept_changed c e
+      go (Err why) e = k
 
 -- some of them, one after the other
 pub kept_middle : (room : ℕ) (a m b rs : List (List ℕ)) → Kept room rs → rs ≡ a ++ (m ++ b) → Kept room m

@@ -1,6 +1,7 @@
 -- What a search over all pixels finds: a pixel that gives numbers at most e from those given; the only one there is, where there is one; and
 -- the same by any numbers of the codes that agree.
 -- Assumes nothing.
+use Rattle.std.specs.Prelude.{None, Ok, Option, Some}
 use mathlib.Core.Bool.{Bool, true, false}
 use mathlib.Core.Path.{◌≡◌, refl, sym, ap, ap₂, ◌∙◌, subst}
 use Prim.Native.Nat.{ℕ, zero, suc, ◌≤◌}
@@ -10,56 +11,53 @@ use borrow.Author.Tests.{leb-true, leb-false}
 use lib.Dec.{leb}
 use lib.IntN.{ℤ}
 use Rattle.rules.specs.declared.Setting.{Setting}
-use Rattle.rules.specs.declared.Pixel.{Pixel}
-use Rattle.rules.specs.declared.Triple.{Triple}
-use Rattle.rules.specs.declared.Found.{Found}
-use Rattle.rules.specs.declared.Found as found
+use Rattle.rules.specs.Triples.{Pixel}
+use Rattle.rules.specs.Triples.{Triple}
 use Rattle.rules.specs.Choice.{choose}
 use Rattle.rules.specs.Setting.{code_at, step_of, last_of, code_check}
 use Rattle.rules.specs.Matrix.{Matrix, matrix_of, aces_number}
 use Rattle.rules.specs.WayBack.{within3, or_else, first_found, tried, pixel_with, pixel_by, exact}
 use Rattle.rules.specs.Pixels.{pixel, triple, aces_of, aces_by}
-use Rattle.rules.specs.declared.Check.TheVariants.{Passed}
 use Rattle.rules.proofs.Within.{NearTriple, within3_near, near_within3, triple_same}
 use Rattle.rules.proofs.Codes.{code_of_step, code_passed, code_passes}
 
 -- ---- what is found
-abbrev IsPixelOrNot : Found → Type 0
-IsPixelOrNot (found.Found.Pixel p) = Unit {0}
-IsPixelOrNot found.Found.Nothing = ⊥
+abbrev IsPixelOrNot : Option Pixel → Type 0
+IsPixelOrNot (Some p) = Unit {0}
+IsPixelOrNot None = ⊥
 
-pub not_nothing : {A : Type 0} {p : Pixel} → found.Found.Nothing ≡ found.Found.Pixel p → A
+pub not_nothing : {A : Type 0} {p : Pixel} → None ≡ Some p → A
 not_nothing e = absurd (subst IsPixelOrNot (sym e) tt)
 
-abbrev pixel_or : Pixel → Found → Pixel
-pixel_or p (found.Found.Pixel q) = q
-pixel_or p found.Found.Nothing = p
+abbrev pixel_or : Pixel → Option Pixel → Pixel
+pixel_or p (Some q) = q
+pixel_or p None = p
 
-pub same_pixel : {p q : Pixel} → found.Found.Pixel p ≡ found.Found.Pixel q → p ≡ q
+pub same_pixel : {p q : Pixel} → Some p ≡ Some q → p ≡ q
 same_pixel {p} e = ap (pixel_or p) e
 
-module _ (f : ℕ → Found) where
+module _ (f : ℕ → Option Pixel) where
   -- what holds of all that is found step by step holds of what is found first
-  pub first_all : (P : Pixel → Type 0) (last : ℕ) → ((j : ℕ) → j ≤ last → (q : Pixel) → f j ≡ found.Found.Pixel q → P q) → (q : Pixel) → first_found f last ≡ found.Found.Pixel q → P q
+  pub first_all : (P : Pixel → Type 0) (last : ℕ) → ((j : ℕ) → j ≤ last → (q : Pixel) → f j ≡ Some q → P q) → (q : Pixel) → first_found f last ≡ Some q → P q
   unfolding first_found
   first_all P zero h q e = h 0 (le_refl 0) q e
   first_all P (suc k) h q e = go (first_found f k) refl e (λ g. first_all P k (λ j l. h j (omega arith)) q g)
     where
-      go : (x : Found) → first_found f k ≡ x → or_else x (f (suc k)) ≡ found.Found.Pixel q → (first_found f k ≡ found.Found.Pixel q → P q) → P q
-      go (found.Found.Pixel p) g e before = before (g ∙ e)
-      go found.Found.Nothing g e before = h (suc k) (le_refl (suc k)) q e
+      go : (x : Option Pixel) → first_found f k ≡ x → or_else x (f (suc k)) ≡ Some q → (first_found f k ≡ Some q → P q) → P q
+      go (Some p) g e before = before (g ∙ e)
+      go None g e before = h (suc k) (le_refl (suc k)) q e
 
   -- and where only one pixel can be found, it is found
-  pub first_only : (p : Pixel) (last : ℕ) → ((j : ℕ) → j ≤ last → (q : Pixel) → f j ≡ found.Found.Pixel q → q ≡ p)
-      → (i : ℕ) → i ≤ last → f i ≡ found.Found.Pixel p → first_found f last ≡ found.Found.Pixel p
+  pub first_only : (p : Pixel) (last : ℕ) → ((j : ℕ) → j ≤ last → (q : Pixel) → f j ≡ Some q → q ≡ p)
+      → (i : ℕ) → i ≤ last → f i ≡ Some p → first_found f last ≡ Some p
   unfolding first_found
-  first_only p zero h i l e = subst (λ (j : ℕ). f j ≡ found.Found.Pixel p) (let z : i ≡ 0 = omega arith in z) e
+  first_only p zero h i l e = subst (λ (j : ℕ). f j ≡ Some p) (let z : i ≡ 0 = omega arith in z) e
   first_only p (suc k) h i l e = go (first_found f k) refl (leb i k) refl (λ m. first_only p k (λ j m. h j (omega arith)) i m e)
     where
-      go : (x : Found) → first_found f k ≡ x → (b : Bool) → leb i k ≡ b → (i ≤ k → first_found f k ≡ found.Found.Pixel p) → or_else x (f (suc k)) ≡ found.Found.Pixel p
-      go (found.Found.Pixel q) g b t before = ap found.Found.Pixel (first_all (λ r. r ≡ p) k (λ j m. h j (omega arith)) q g)
-      go found.Found.Nothing g true t before = not_nothing (sym g ∙ before (leb-true i k t))
-      go found.Found.Nothing g false t before = subst (λ (j : ℕ). f j ≡ found.Found.Pixel p) (let u = leb-false i k t in let z : i ≡ suc k = omega arith in z) e
+      go : (x : Option Pixel) → first_found f k ≡ x → (b : Bool) → leb i k ≡ b → (i ≤ k → first_found f k ≡ Some p) → or_else x (f (suc k)) ≡ Some p
+      go (Some q) g b t before = ap Some (first_all (λ r. r ≡ p) k (λ j m. h j (omega arith)) q g)
+      go None g true t before = not_nothing (sym g ∙ before (leb-true i k t))
+      go None g false t before = subst (λ (j : ℕ). f j ≡ Some p) (let u = leb-false i k t in let z : i ≡ suc k = omega arith in z) e
 
 -- ---- all pixels
 
@@ -70,11 +68,11 @@ pub record IsCode (code : ℕ → ℕ) (last n : ℕ) : Type 0 where
   pub code_is : code step ≡ n
 
 -- of a setting: the codes that pass their check
-pub own_code : (s : Setting) (n : ℕ) → code_check s n ≡ Passed → IsCode (code_at s) (last_of s) n
+pub own_code : (s : Setting) (n : ℕ) → code_check s n ≡ Ok tt → IsCode (code_at s) (last_of s) n
 own_code s n e = record { step = step_of s n; in_range = code_passed s n e; code_is = code_of_step s n e }
 
-pub code_checked : (s : Setting) (n : ℕ) → IsCode (code_at s) (last_of s) n → code_check s n ≡ Passed
-code_checked s n c = subst (λ (n : ℕ). code_check s n ≡ Passed) c.code_is (code_passes s c.step c.in_range)
+pub code_checked : (s : Setting) (n : ℕ) → IsCode (code_at s) (last_of s) n → code_check s n ≡ Ok tt
+code_checked s n c = subst (λ (n : ℕ). code_check s n ≡ Ok tt) c.code_is (code_passes s c.step c.in_range)
 
 module _ (e : ℕ) (number : ℕ → ℤ) (m : Matrix) (code : ℕ → ℕ) (last : ℕ) (a : Triple) where
   -- codes that give numbers at most e from those given
@@ -88,7 +86,7 @@ module _ (e : ℕ) (number : ℕ → ℤ) (m : Matrix) (code : ℕ → ℕ) (las
   abbrev at_steps : (r g b : ℕ) → Pixel
   at_steps r g b = pixel (code r) (code g) (code b)
 
-  tried_gives : (r g b : ℕ) → r ≤ last → g ≤ last → b ≤ last → (q : Pixel) → tried e number m a (at_steps r g b) ≡ found.Found.Pixel q → Gives q
+  tried_gives : (r g b : ℕ) → r ≤ last → g ≤ last → b ≤ last → (q : Pixel) → tried e number m a (at_steps r g b) ≡ Some q → Gives q
   tried_gives r g b hr hg hb q f = go (within3 e a (aces_of number m (at_steps r g b))) refl f
     where
       here : within3 e a (aces_of number m (at_steps r g b)) ≡ true → Gives (at_steps r g b)
@@ -100,29 +98,29 @@ module _ (e : ℕ) (number : ℕ → ℤ) (m : Matrix) (code : ℕ → ℕ) (las
             numbers = within3_near e a (aces_of number m (at_steps r g b)) t;
           }
 
-      go : (t : Bool) → within3 e a (aces_of number m (at_steps r g b)) ≡ t → choose t (found.Found.Pixel (at_steps r g b)) found.Found.Nothing ≡ found.Found.Pixel q → Gives q
+      go : (t : Bool) → within3 e a (aces_of number m (at_steps r g b)) ≡ t → choose t (Some (at_steps r g b)) None ≡ Some q → Gives q
       go true t f = subst Gives (same_pixel f) (here t)
       go false t f = not_nothing f
 
-  abbrev greens : (r : ℕ) → ℕ → Found
+  abbrev greens : (r : ℕ) → ℕ → Option Pixel
   greens r g = first_found (λ b. tried e number m a (at_steps r g b)) last
 
-  abbrev reds : ℕ → Found
+  abbrev reds : ℕ → Option Pixel
   reds r = first_found (greens r) last
 
-  green_gives : (r g : ℕ) → r ≤ last → g ≤ last → (q : Pixel) → greens r g ≡ found.Found.Pixel q → Gives q
+  green_gives : (r g : ℕ) → r ≤ last → g ≤ last → (q : Pixel) → greens r g ≡ Some q → Gives q
   green_gives r g hr hg = first_all (λ b. tried e number m a (at_steps r g b)) Gives last (λ b hb. tried_gives r g b hr hg hb)
 
-  red_gives : (r : ℕ) → r ≤ last → (q : Pixel) → reds r ≡ found.Found.Pixel q → Gives q
+  red_gives : (r : ℕ) → r ≤ last → (q : Pixel) → reds r ≡ Some q → Gives q
   red_gives r hr = first_all (greens r) Gives last (λ g hg. green_gives r g hr hg)
 
   -- WHAT IS FOUND gives such numbers
-  pub found_gives : (q : Pixel) → pixel_with e number m code last a ≡ found.Found.Pixel q → Gives q
+  pub found_gives : (q : Pixel) → pixel_with e number m code last a ≡ Some q → Gives q
   unfolding pixel_with
   found_gives = first_all reds Gives last (λ r hr. red_gives r hr)
 
   -- WHAT GIVES SUCH NUMBERS is found, where nothing else gives them
-  pub gives_found : (p : Pixel) → ((q : Pixel) → Gives q → q ≡ p) → Gives p → pixel_with e number m code last a ≡ found.Found.Pixel p
+  pub gives_found : (p : Pixel) → ((q : Pixel) → Gives q → q ≡ p) → Gives p → pixel_with e number m code last a ≡ Some p
   unfolding pixel_with
   gives_found p only h =
       let r = h.red.step in
@@ -135,24 +133,24 @@ module _ (e : ℕ) (number : ℕ → ℤ) (m : Matrix) (code : ℕ → ℕ) (las
       is_p : at_steps h.red.step h.green.step h.blue.step ≡ p
       is_p = λ i. pixel (h.red.code_is i) (h.green.code_is i) (h.blue.code_is i)
 
-      here : tried e number m a p ≡ found.Found.Pixel p
-      here = ap (λ (t : Bool). choose t (found.Found.Pixel p) found.Found.Nothing) (near_within3 e a (aces_of number m p) h.numbers)
+      here : tried e number m a p ≡ Some p
+      here = ap (λ (t : Bool). choose t (Some p) None) (near_within3 e a (aces_of number m p) h.numbers)
 
   -- and NOTHING is found where nothing gives them
-  pub none_found : ((q : Pixel) → Gives q → ⊥) → pixel_with e number m code last a ≡ found.Found.Nothing
+  pub none_found : ((q : Pixel) → Gives q → ⊥) → pixel_with e number m code last a ≡ None
   none_found never = go (pixel_with e number m code last a) refl
     where
-      go : (x : Found) → pixel_with e number m code last a ≡ x → x ≡ found.Found.Nothing
-      go (found.Found.Pixel q) f = absurd (never q (found_gives q f))
-      go found.Found.Nothing f = refl
+      go : (x : Option Pixel) → pixel_with e number m code last a ≡ x → x ≡ None
+      go (Some q) f = absurd (never q (found_gives q f))
+      go None f = refl
 
 -- A WAY BACK finds a pixel whose triple is at most so far from the given one in every channel, and THE EXACT one a pixel with exactly that triple,
 -- whatever numbers the codes have
-pub near_found : (e : ℕ) (number : Setting → ℕ → ℤ) (s : Setting) (a : Triple) (p : Pixel) → pixel_by e number s a ≡ found.Found.Pixel p → NearTriple a (aces_by number s p) e
+pub near_found : (e : ℕ) (number : Setting → ℕ → ℤ) (s : Setting) (a : Triple) (p : Pixel) → pixel_by e number s a ≡ Some p → NearTriple a (aces_by number s p) e
 unfolding pixel_by
 near_found e number s a p f = (found_gives e (number s) (matrix_of s) (code_at s) (last_of s) a p f).numbers
 
-pub exact_found : (number : Setting → ℕ → ℤ) (s : Setting) (a : Triple) (p : Pixel) → pixel_by exact number s a ≡ found.Found.Pixel p → aces_by number s p ≡ a
+pub exact_found : (number : Setting → ℕ → ℤ) (s : Setting) (a : Triple) (p : Pixel) → pixel_by exact number s a ≡ Some p → aces_by number s p ≡ a
 exact_found number s a p f = sym (triple_same (near_found exact number s a p f))
 
 -- ---- numbers that agree on the codes give the same ACES numbers, and the same pixel is found
@@ -160,7 +158,7 @@ pub same_aces : (number other : ℕ → ℤ) (m : Matrix) (p : Pixel) → number
     → aces_of number m p ≡ aces_of other m p
 same_aces number other m p er eg eb = λ i. triple (aces_number m 0 (er i) (eg i) (eb i)) (aces_number m 1 (er i) (eg i) (eb i)) (aces_number m 2 (er i) (eg i) (eb i))
 
-same_first : (f g : ℕ → Found) (last : ℕ) → ((n : ℕ) → n ≤ last → f n ≡ g n) → first_found f last ≡ first_found g last
+same_first : (f g : ℕ → Option Pixel) (last : ℕ) → ((n : ℕ) → n ≤ last → f n ≡ g n) → first_found f last ≡ first_found g last
 unfolding first_found
 same_first f g zero h = h 0 (le_refl 0)
 same_first f g (suc k) h = ap₂ or_else (same_first f g k (λ n l. h n (omega arith))) (h (suc k) (le_refl (suc k)))
@@ -176,4 +174,4 @@ same_found e number other m code last a h =
     same_first _ _ last
     (λ b lb.
     let p = pixel (code r) (code g) (code b) in
-    ap (λ (x : Triple). choose (within3 e a x) (found.Found.Pixel p) found.Found.Nothing) (same_aces number other m p (h r lr) (h g lg) (h b lb)))))
+    ap (λ (x : Triple). choose (within3 e a x) (Some p) None) (same_aces number other m p (h r lr) (h g lg) (h b lb)))))

@@ -1,5 +1,6 @@
 -- What a valid setting is: one of the curves, with one of its widths and one of its EI. A test that all of them pass is passed by a valid setting.
 -- Assumes nothing.
+use Rattle.std.specs.Prelude.{Err, Ok}
 use mathlib.Core.Bool.{Bool, true, false}
 use mathlib.Core.List.{List, [], ◌∷◌}
 use mathlib.Core.Path.{◌≡◌, refl, sym, subst}
@@ -7,14 +8,12 @@ use Prim.Native.Nat.{ℕ}
 use borrow.Author.Tests.{eqb-true, ne_eqb}
 use lib.Dec.{T, eqb, eqb→eq}
 use Rattle.rules.specs.declared.Setting.{Setting}
-use Rattle.rules.specs.declared.Check.{Check}
-use Rattle.rules.specs.declared.Check.TheVariants.{Passed, Refused}
+use Rattle.rules.specs.Refusal.{Check, then, refuse_unless}
 use Rattle.rules.specs.declared.Refusal.{Refusal}
 use Rattle.rules.specs.declared.CurveName.{CurveName}
 use Rattle.rules.specs.declared.CurveName.TheVariants.{LogC2, LogC3, LogC4, Unknown}
 use Rattle.rules.specs.declared.Refusal.TheVariants.{UnknownCurve, UnknownWidth, UnknownEi, NoMatrix}
 use Rattle.rules.specs.Choice.{choose, member}
-use Rattle.rules.specs.Refusal.{then, refuse_unless}
 use Rattle.rules.specs.Setting.{named, known, widths_of, eis_of, setting_check, Valid, has_matrix, aces_check, ValidForAces}
 
 -- ---- lists
@@ -40,24 +39,24 @@ for_one (a ∷ ns) p h n m = go (eqb n a) refl m (for_one ns p (others (p a) (fo
 
 -- ---- the three checks
 IsRefused : Check → Type 0
-IsRefused Passed = ⊥
-IsRefused (Refused r) = Unit {0}
+IsRefused (Ok tt) = ⊥
+IsRefused (Err r) = Unit {0}
 
-pub passed_only : (x : Bool) (r : Refusal) → refuse_unless x r ≡ Passed → T x
+pub passed_only : (x : Bool) (r : Refusal) → refuse_unless x r ≡ Ok tt → T x
 unfolding IsRefused
 passed_only true r e = tt
 passed_only false r e = subst IsRefused e tt
 
-pub refused_never : {A : Type 0} {r : Refusal} → Refused r ≡ Passed → A
+pub refused_never : {A : Type 0} {r : Refusal} → ◌≡◌ {A = Check} (Err r) (Ok tt) → A
 unfolding IsRefused
 refused_never e = absurd (subst IsRefused e tt)
 
 -- where two checks pass, each passes
-pub both : (x y : Check) → then x y ≡ Passed → (x ≡ Passed) × (y ≡ Passed)
-both Passed y e = (refl, e)
-both (Refused r) y e = refused_never e
+pub both : (x y : Check) → then x y ≡ Ok tt → (x ≡ Ok tt) × (y ≡ Ok tt)
+both (Ok tt) y e = (refl, e)
+both (Err r) y e = refused_never e
 
-both_passed : (x : Bool) (r : Refusal) (next : Check) → then (refuse_unless x r) next ≡ Passed → T x × (next ≡ Passed)
+both_passed : (x : Bool) (r : Refusal) (next : Check) → then (refuse_unless x r) next ≡ Ok tt → T x × (next ≡ Ok tt)
 both_passed x r next e = let b = both (refuse_unless x r) next e in (passed_only x r b.0, b.1)
 
 pub record Members (s : Setting) : Type 0 where
@@ -72,10 +71,10 @@ members s v = record { curve = a.0; width = c.0; ei = passed_only (member s.ei (
     later : Check
     later = refuse_unless (member s.ei (eis_of (named s.curve))) UnknownEi
 
-    a : T (known (named s.curve)) × (then (refuse_unless (member s.width (widths_of (named s.curve))) UnknownWidth) later ≡ Passed)
+    a : T (known (named s.curve)) × (then (refuse_unless (member s.width (widths_of (named s.curve))) UnknownWidth) later ≡ Ok tt)
     a = both_passed (known (named s.curve)) UnknownCurve (then (refuse_unless (member s.width (widths_of (named s.curve))) UnknownWidth) later) v
 
-    c : T (member s.width (widths_of (named s.curve))) × (later ≡ Passed)
+    c : T (member s.width (widths_of (named s.curve))) × (later ≡ Ok tt)
     c = both_passed (member s.width (widths_of (named s.curve))) UnknownWidth later a.1
 
 -- ---- what the name of a curve says of its number

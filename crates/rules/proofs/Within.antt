@@ -14,7 +14,7 @@ use lib.Signed.{le_z}
 use Rattle.whole.proofs.Reflect.{at, add, le_n-of, le_z-of}
 use Rattle.whole.proofs.Near.{Near, near_same, same_near, near_more, near_or_far, near_not_far}
 use Rattle.whole.proofs.Middle.{middle, middle_near}
-use Rattle.rules.specs.declared.Triple.{Triple}
+use Rattle.rules.specs.Triples.{Triple}
 use Rattle.rules.specs.Choice.{choose}
 use Rattle.rules.specs.WayBack.{within, within3, Differ}
 use Rattle.rules.specs.Pixels.{triple}

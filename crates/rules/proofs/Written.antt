@@ -8,7 +8,7 @@ use lib.IntN.{ℤ, nat_abs}
 use lib.ListN.{drop}
 use Rattle.whole.specs.Parts.{up, dn}
 use Rattle.whole.proofs.Reflect.{abs_is}
-use Rattle.rules.specs.declared.Pixel.{Pixel}
+use Rattle.rules.specs.Triples.{Pixel}
 use Rattle.rules.specs.declared.Setting.{Setting}
 use Rattle.rules.specs.Pixels.{pixel, Small3}
 use Rattle.rules.specs.Record.{IsBytes, to_bits, of_bits, setting_of, Channels, channel_at, code_bytes, number_bytes, numbers_record, pixel_in, pixel_record}

@@ -2,12 +2,11 @@
 -- give: values, or the refusal of the first check that fails. The numbers of the codes are a parameter, and so is the scene triple of graded numbers.
 -- Assumes nothing.
 use Rattle.std.specs.Prelude.{List, [], ◌∷◌, ◌≡◌, ℕ, Float, ℤ}
-use Rattle.rules.specs.declared.Check.{Check}
+use Rattle.rules.specs.Refusal.{Check, then}
 use Rattle.rules.specs.declared.Setting.{Setting}
-use Rattle.rules.specs.declared.Pixel.{Pixel}
-use Rattle.rules.specs.declared.Scenes.{Scenes}
-use Rattle.rules.specs.declared.Triple.{Triple}
-use Rattle.rules.specs.Refusal.{then}
+use Rattle.rules.specs.Triples.{Pixel}
+use Rattle.rules.specs.Triples.{Scenes}
+use Rattle.rules.specs.Triples.{Triple}
 use Rattle.rules.specs.Result.{Result, single}
 use Rattle.rules.specs.Setting.{last_of, code_at, setting_check, aces_check, code_check}
 use Rattle.rules.specs.Exact.{scale_of}

@@ -3,16 +3,12 @@
 -- numbers, and item 8: "a tolerant way back": what each checks of a record's setting, what it checks of the record after it, and what it writes.
 -- The numbers of the codes are a parameter, and so are the distance of a way back and the scene triple of graded numbers.
 -- Assumes nothing.
-use Rattle.std.specs.Prelude.{List, ℕ, ℤ}
-use Rattle.rules.specs.declared.Check.{Check}
-use Rattle.rules.specs.declared.Check.TheVariants.{Passed}
+use Rattle.std.specs.Prelude.{List, ℕ, ℤ, None, Ok, Option, Some}
+use Rattle.rules.specs.Refusal.{Check, then}
 use Rattle.rules.specs.declared.Setting.{Setting}
-use Rattle.rules.specs.declared.Pixel.{Pixel}
-use Rattle.rules.specs.declared.Scenes.{Scenes}
-use Rattle.rules.specs.declared.Triple.{Triple}
-use Rattle.rules.specs.declared.Found.{Found}
-use Rattle.rules.specs.declared.Found as found
-use Rattle.rules.specs.Refusal.{then}
+use Rattle.rules.specs.Triples.{Pixel}
+use Rattle.rules.specs.Triples.{Scenes}
+use Rattle.rules.specs.Triples.{Triple}
 use Rattle.rules.specs.Setting.{setting_check, aces_check, code_check}
 use Rattle.rules.specs.Encoding.{code_by, scene_check}
 use Rattle.rules.specs.Pixels.{pixel, aces_by}
@@ -47,7 +43,7 @@ number_check s u = scene_check (of_bits number_bytes u)
 
 -- ACES to half: "each ACES number to the nearest finite half". Nothing of a channel is checked
 abbrev pub no_check : Setting → ℕ → Check
-no_check s u = Passed
+no_check s u = Ok tt
 
 abbrev pub half_bits : Setting → ℕ → ℕ
 half_bits s u = half_of (of_bits number_bytes u)
@@ -66,9 +62,9 @@ abbrev pub half_to_aces : Conversion
 half_to_aces = channelwise aces_check half_bytes number_bytes finite_check unit_bits
 
 -- what is written for what was found (nothing is where there is none: refusal 10)
-abbrev pub pixel_found : Found → Pixel
-pixel_found (found.Found.Pixel p) = p
-pixel_found found.Found.Nothing = pixel 0 0 0
+abbrev pub pixel_found : Option Pixel → Pixel
+pixel_found (Some p) = p
+pixel_found None = pixel 0 0 0
 
 -- ---- where codes have these numbers
 module _ (number : Setting → ℕ → ℤ) where

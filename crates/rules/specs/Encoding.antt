@@ -1,7 +1,7 @@
 -- 01, "Encoding": the code of a scene number.
 -- Assumes nothing.
 use Rattle.std.specs.Prelude.{ℕ, zero, suc, ◌+◌, ◌-◌, ◌*◌, ◌^◌, ◌≤◌, ◌<◌, ltb, ℤ, nat_abs, ◌-ℤ◌}
-use Rattle.rules.specs.declared.Check.{Check}
+use Rattle.rules.specs.Refusal.{Check, refuse_unless}
 use Rattle.rules.specs.declared.Refusal.TheVariants.{SceneOutOfRange}
 use Rattle.rules.specs.Choice.{choose, between}
 use Rattle.rules.specs.Fraction.{ratio, integer, ◌*ℚ◌, AtMost, AtLeast}
@@ -9,7 +9,6 @@ use Rattle.rules.specs.declared.Setting.{Setting}
 use Rattle.rules.specs.Setting.{last_of, code_at}
 use Rattle.rules.specs.Exact.{Scale, VersusExact}
 use Rattle.rules.specs.Decoding.{unit}
-use Rattle.rules.specs.Refusal.{refuse_unless}
 
 -- how far x is from the number of a step
 abbrev pub distance : (number : ℕ → ℤ) (x : ℤ) (i : ℕ) → ℕ

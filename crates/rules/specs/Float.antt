@@ -4,11 +4,10 @@
 use Rattle.std.specs.Prelude.{Bool, true, false, ◌≡◌, ℕ, zero, suc, ◌+◌, ◌*◌, ◌^◌, ℤ, pos, negsuc, nat_abs, neg_ℤ, Float}
 use Rattle.std.specs.Float.{nan, inf, fin, binary64}
 use Rattle.std.specs.Float.Ieee.{up, down, round}
-use Rattle.rules.specs.declared.Check.{Check}
+use Rattle.rules.specs.Refusal.{Check, then, refuse_unless}
 use Rattle.rules.specs.declared.Refusal.TheVariants.{FloatNotFinite, FloatOutOfRange}
 use Rattle.rules.specs.Choice.{choose}
 use Rattle.rules.specs.Fraction.{Fraction, whole, integer, ◌*ℚ◌, ◌/ℚ◌, Versus, at_most, nearest}
-use Rattle.rules.specs.Refusal.{then, refuse_unless}
 
 -- n / d, or minus it
 abbrev pub signed : Bool → (n d : ℕ) → Fraction

@@ -1,15 +1,13 @@
 -- 02, item 7, "Graded masters home again": the scene numbers for ACES numbers that a colourist changed.
 -- Assumes nothing.
-use Rattle.std.specs.Prelude.{true, List, [], ◌∷◌, ◌≡◌, ℕ, ◌^◌, ℤ}
-use Rattle.rules.specs.declared.Check.{Check}
-use Rattle.rules.specs.declared.Check.TheVariants.{Passed}
+use Rattle.std.specs.Prelude.{true, List, [], ◌∷◌, ◌≡◌, ℕ, ◌^◌, ℤ, Ok}
+use Rattle.rules.specs.Refusal.{Check, then, refuse_unless}
 use Rattle.rules.specs.declared.Refusal.TheVariants.{GradedOutOfRange}
-use Rattle.rules.specs.declared.Pixel.{Pixel}
-use Rattle.rules.specs.declared.Scenes.{Scenes}
+use Rattle.rules.specs.Triples.{Pixel}
+use Rattle.rules.specs.Triples.{Scenes}
 use Rattle.rules.specs.declared.Setting.{Setting}
-use Rattle.rules.specs.declared.Triple.{Triple}
+use Rattle.rules.specs.Triples.{Triple}
 use Rattle.rules.specs.Choice.{between}
-use Rattle.rules.specs.Refusal.{then, refuse_unless}
 use Rattle.rules.specs.Encoding.{code_by, scene_check}
 use Rattle.rules.specs.Matrix.{matrix_of}
 use Rattle.rules.specs.Pixels.{pixel, Small3, aces_triple}
@@ -37,9 +35,9 @@ graded_tolerance = 2
 -- "a scene triple whose ACES triple differs from the given one by at most" e units; and one that can be encoded: 7 refuses none of it
 pub record GradedWithin (e : ℕ) (s : Setting) (a : Triple) (x : Scenes) : Type 0 where
   pub near : within3 e a (aces_triple (matrix_of s) x) ≡ true
-  pub red_encodes : scene_check x.red.0 ≡ Passed
-  pub green_encodes : scene_check x.green.0 ≡ Passed
-  pub blue_encodes : scene_check x.blue.0 ≡ Passed
+  pub red_encodes : scene_check x.red.0 ≡ Ok tt
+  pub green_encodes : scene_check x.green.0 ≡ Ok tt
+  pub blue_encodes : scene_check x.blue.0 ≡ Ok tt
 
 -- what is asked of the scene triple for a graded triple. "Which scene triple is given is otherwise free.": where it is needed, it is a parameter
 abbrev pub IsGraded : Setting → Triple → Scenes → Type 0

@@ -4,11 +4,10 @@
 use Rattle.std.specs.Prelude.{◌⊎◌, ◌≡◌, ℕ, zero, suc, ◌+◌, ◌-◌, ◌*◌, ◌/◌, ◌%◌, ◌^◌, ◌≤◌, ◌<◌, min, ltb, eqb, ℤ, pos, negsuc, nat_abs, ◌-ℤ◌}
 use Rattle.std.specs.Int.Count.{count_leading_zeros}
 use Rattle.whole.specs.Parts.{minus}
-use Rattle.rules.specs.declared.Check.{Check}
+use Rattle.rules.specs.Refusal.{Check, refuse_unless}
 use Rattle.rules.specs.declared.Refusal.TheVariants.{FloatNotFinite}
 use Rattle.rules.specs.Choice.{choose}
 use Rattle.rules.specs.Fraction.{Fraction, ratio, whole, ◌+ℚ◌, ◌-ℚ◌, ◌*ℚ◌}
-use Rattle.rules.specs.Refusal.{refuse_unless}
 
 abbrev pub sign_of : ℕ → ℕ
 sign_of h = h / 2 ^ 15
@@ -76,7 +75,7 @@ pub record IsNearestHalf (v : ℤ) (h : ℕ) : Type 0 where
 abbrev pub with_plus_zero : ℕ → ℕ
 with_plus_zero h = choose (eqb h minus_zero) 0 h
 
--- ---- the same as an equation. (That `half_of v` is nearest, and that nothing else is, are theorems: `half-nearest`, `half-only`.)
+-- ---- the same as an equation. (That `half_of v` is nearest, and that nothing else is, are theorems: `half_nearest`, `half_only`.)
 
 -- "a number beyond plus or minus 65,504 gives that end"
 abbrev pub half_end : ℕ

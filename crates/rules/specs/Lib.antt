@@ -1,5 +1,7 @@
 -- The rules, in the order in which to read them.
 
+-- one of a kind for each channel
+pub mod Triples
 -- choosing by a test
 pub mod Choice
 -- fractions, their order, and comparing with a power

@@ -1,14 +1,10 @@
 -- 01, "Float pixels and the lister": all that the lister prints, as bytes of text (ASCII). The numbers of the codes are a parameter.
 -- Assumes nothing.
-use Rattle.std.specs.Prelude.{List, [], ◌∷◌, ◌++◌, ℕ, suc, ◌/◌, ◌%◌, eqb, ℤ, length}
-use Rattle.rules.specs.declared.Check.{Check}
-use Rattle.rules.specs.declared.Check as check
-use Rattle.rules.specs.declared.Outcome.{Outcome}
-use Rattle.rules.specs.declared.Outcome.TheVariants.{Aces, Refused}
+use Rattle.std.specs.Prelude.{List, [], ◌∷◌, ◌++◌, ℕ, suc, ◌/◌, ◌%◌, eqb, ℤ, length, Err, Ok}
+use Rattle.rules.specs.Refusal.{Check, OrRefusal, number_of}
 use Rattle.rules.specs.declared.Setting.{Setting}
-use Rattle.rules.specs.declared.Triple.{Triple}
+use Rattle.rules.specs.Triples.{Triple}
 use Rattle.rules.specs.Choice.{choose}
-use Rattle.rules.specs.Refusal.{number_of}
 use Rattle.rules.specs.Decimal.{decimal, signed}
 use Rattle.rules.specs.Pixels.{aces_by}
 use Rattle.rules.specs.Record.{code_bytes, size_of, setting_of, pixel_in}
@@ -36,12 +32,12 @@ line_of (w ∷ []) = followed w 10
 line_of (w ∷ v ∷ ws) = followed w 32 ++ line_of (v ∷ ws)
 
 -- "`ok` with three ACES numbers or `refused` with the number"
-abbrev pub words : Outcome → List (List ℕ)
-words (Aces a) = ok ∷ signed a.red.0 ∷ signed a.green.0 ∷ signed a.blue.0 ∷ []
-words (Refused why) = refused ∷ decimal (number_of why) ∷ []
+abbrev pub words : OrRefusal Triple → List (List ℕ)
+words (Ok a) = ok ∷ signed a.red.0 ∷ signed a.green.0 ∷ signed a.blue.0 ∷ []
+words (Err why) = refused ∷ decimal (number_of why) ∷ []
 
 -- "index .., a space, then" the words of the record
-abbrev pub line : (index : ℕ) → Outcome → List ℕ
+abbrev pub line : (index : ℕ) → OrRefusal Triple → List ℕ
 line k o = line_of (decimal k ∷ words o)
 
 -- "Bytes short of a record at the end print `tail`, a space and their count; none print nothing."
@@ -53,11 +49,11 @@ abbrev pub size : ℕ
 size = size_of code_bytes
 
 -- what becomes of a record, which is judged alone: the pixel's three ACES numbers, or the refusal
-abbrev pub after_check : Check → Triple → Outcome
-after_check check.Check.Passed a = Aces a
-after_check (check.Check.Refused why) a = Refused why
+abbrev pub after_check : Check → Triple → OrRefusal Triple
+after_check (Ok tt) a = Ok a
+after_check (Err why) a = Err why
 
-abbrev pub outcome_by : (number : Setting → ℕ → ℤ) → List ℕ → Outcome
+abbrev pub outcome_by : (number : Setting → ℕ → ℤ) → List ℕ → OrRefusal Triple
 outcome_by number r = after_check (record_check (pixel_to_aces number) r) (aces_by number (setting_of r) (pixel_in r))
 
 -- "a line each: index from 0", or from k

@@ -1,21 +1,19 @@
 -- 01, "ACES and the way back": a pixel of a setting, and the ACES numbers that it gives.
 -- Assumes nothing.
-use Rattle.std.specs.Prelude.{List, [], ◌∷◌, ◌≡◌, ℕ, ◌≤◌, ℤ, nat_abs}
-use Rattle.rules.specs.declared.Check.{Check}
-use Rattle.rules.specs.declared.Check.TheVariants.{Passed}
+use Rattle.std.specs.Prelude.{List, [], ◌∷◌, ◌≡◌, ℕ, ◌≤◌, ℤ, nat_abs, Ok}
+use Rattle.rules.specs.Refusal.{Check, then}
 use Rattle.rules.specs.declared.Setting.{Setting}
-use Rattle.rules.specs.declared.Pixel.{Pixel}
-use Rattle.rules.specs.declared.Scenes.{Scenes}
-use Rattle.rules.specs.declared.Triple.{Triple}
-use Rattle.rules.specs.Refusal.{then}
+use Rattle.rules.specs.Triples.{Pixel}
+use Rattle.rules.specs.Triples.{Scenes}
+use Rattle.rules.specs.Triples.{Triple}
 use Rattle.rules.specs.Setting.{code_check}
 use Rattle.rules.specs.Matrix.{Matrix, aces_number, matrix_of}
 
 -- "A pixel of a valid setting is three codes that each pass the channel checks on codes."
 pub record IsPixel (s : Setting) (p : Pixel) : Type 0 where
-  pub red : code_check s p.red.0 ≡ Passed
-  pub green : code_check s p.green.0 ≡ Passed
-  pub blue : code_check s p.blue.0 ≡ Passed
+  pub red : code_check s p.red.0 ≡ Ok tt
+  pub green : code_check s p.green.0 ≡ Ok tt
+  pub blue : code_check s p.blue.0 ≡ Ok tt
 
 -- its checks: "red, green and blue (each channel's checks before the next channel)"
 abbrev pub each_code : (ℕ → Check) → Pixel → Check

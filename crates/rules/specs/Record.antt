@@ -2,9 +2,9 @@
 -- Assumes nothing.
 use Rattle.std.specs.Prelude.{List, [], ◌∷◌, ◌++◌, ℕ, zero, suc, ◌+◌, ◌-◌, ◌*◌, ◌/◌, ◌%◌, ◌^◌, ◌<◌, ltb, ℤ, pos, negsuc, get_or, take, drop}
 use Rattle.rules.specs.declared.Setting.{Setting}
-use Rattle.rules.specs.declared.Pixel.{Pixel}
-use Rattle.rules.specs.declared.Scenes.{Scenes}
-use Rattle.rules.specs.declared.Triple.{Triple}
+use Rattle.rules.specs.Triples.{Pixel}
+use Rattle.rules.specs.Triples.{Scenes}
+use Rattle.rules.specs.Triples.{Triple}
 use Rattle.rules.specs.Choice.{choose}
 use Rattle.rules.specs.Pixels.{pixel, triple}
 

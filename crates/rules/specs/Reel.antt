@@ -2,17 +2,13 @@
 -- list of calls makes of a reel that is a list of records; then what is kept of a reel in memory, and what a call does to it, whatever is there.
 -- The numbers of the codes are a parameter.
 -- Assumes nothing.
-use Rattle.std.specs.Prelude.{Bool, false, List, [], ◌∷◌, ◌++◌, ◌≡◌, ℕ, suc, ◌+◌, ◌-◌, ◌*◌, ◌/◌, ◌%◌, ◌^◌, leb, ltb, ℤ, pos, ◌+ℤ◌, length, take, drop}
-use Rattle.rules.specs.declared.Check.{Check}
-use Rattle.rules.specs.declared.Check as check
-use Rattle.rules.specs.declared.ReelAnswer.{ReelAnswer}
-use Rattle.rules.specs.declared.ReelAnswer.TheVariants.{Done, Refused}
+use Rattle.std.specs.Prelude.{Bool, false, List, [], ◌∷◌, ◌++◌, ◌≡◌, ℕ, suc, ◌+◌, ◌-◌, ◌*◌, ◌/◌, ◌%◌, ◌^◌, leb, ltb, ℤ, pos, ◌+ℤ◌, length, take, drop, Err, Ok}
+use Rattle.rules.specs.Refusal.{Check, OrRefusal, number_of, then, refuse_unless}
 use Rattle.rules.specs.declared.Refusal.TheVariants.{ReelFull, NotHeld}
-use Rattle.rules.specs.declared.Scenes.{Scenes}
+use Rattle.rules.specs.Triples.{Scenes}
 use Rattle.rules.specs.declared.Setting.{Setting}
 use Rattle.rules.specs.declared.Totals.{Totals}
 use Rattle.rules.specs.Choice.{choose}
-use Rattle.rules.specs.Refusal.{number_of, then, refuse_unless}
 use Rattle.rules.specs.Result.{Result, done, refused_by}
 use Rattle.rules.specs.Setting.{aces_check, code_check}
 use Rattle.rules.specs.Pixels.{scenes}
@@ -55,8 +51,8 @@ call_check room count drop_last = refuse_unless (held room count (count - 1)) No
 
 -- a where the check passes, else b
 abbrev pub if_passed : {A : Type 0} → Check → A → A → A
-if_passed check.Check.Passed a b = a
-if_passed (check.Check.Refused why) a b = b
+if_passed (Ok tt) a b = a
+if_passed (Err why) a b = b
 
 -- ---- a reel as a list of records: what accepted calls make of it
 
@@ -136,9 +132,9 @@ sum_of f [] = pos 0
 sum_of f (r ∷ rs) = f r +ℤ sum_of f rs
 
 -- what a call answers where its check is so and this is kept after it
-abbrev pub answer_to : Check → Totals → ReelAnswer
-answer_to check.Check.Passed t = Done t
-answer_to (check.Check.Refused why) t = Refused why
+abbrev pub answer_to : Check → Totals → OrRefusal Totals
+answer_to (Ok tt) t = Ok t
+answer_to (Err why) t = Err why
 
 -- ---- where codes have these numbers
 module _ (number : Setting → ℕ → ℤ) where
@@ -161,14 +157,14 @@ module _ (number : Setting → ℕ → ℤ) where
   totals_after_call reel drop_last = totals_with (reel.totals.count - 1) reel.totals (metered_at reel (reel.totals.count - 1)) no_scenes
 
   -- what a call answers, and the reel after it
-  unfoldable pub reel_answer : Reel → Call → ReelAnswer
+  unfoldable pub reel_answer : Reel → Call → OrRefusal Totals
   reel_answer reel c = answer_to (reel_check reel c) (totals_after_call reel c)
 
   unfoldable pub reel_after : Reel → Call → Reel
   reel_after reel c = if_passed (reel_check reel c) (reel_of (strip_after_call reel c) (totals_after_call reel c)) reel
 
   -- the contract of a call: what it answers, and every byte of the strip after it
-  pub record Answers (strip : List ℕ) (t : Totals) (c : Call) (answer : ReelAnswer) (after : List ℕ) : Type 0 where
+  pub record Answers (strip : List ℕ) (t : Totals) (c : Call) (answer : OrRefusal Totals) (after : List ℕ) : Type 0 where
     pub answers : answer ≡ reel_answer (reel_of strip t) c
     pub writes : after ≡ (reel_after (reel_of strip t) c).strip
 
@@ -184,6 +180,6 @@ module _ (number : Setting → ℕ → ℤ) where
     pub blue : of_bits sum_bytes t.blue ≡ sum_of (λ r. scene_at r 2) rs
 
 -- the number and the values of each case of the answer: "success (with the count of records then held) or a refusal"
-abbrev pub reel_result : ReelAnswer → Result ℕ
-reel_result (Done t) = done (t.count ∷ [])
-reel_result (Refused why) = refused_by (number_of why) 0
+abbrev pub reel_result : OrRefusal Totals → Result ℕ
+reel_result (Ok t) = done (t.count ∷ [])
+reel_result (Err why) = refused_by (number_of why) 0

@@ -1,11 +1,10 @@
--- 01, "Refused, by the place of the check": the number of each cause.
+-- 01, "Refused, by the place of the check": the number of each cause, and what a call answers that may refuse.
 -- Assumes nothing.
-use Rattle.std.specs.Prelude.{Bool, ℕ}
+use Rattle.std.specs.Prelude.{Bool, ℕ, Result, Ok, Err}
 use Rattle.rules.specs.Choice.{choose}
 use Rattle.rules.specs.declared.Refusal.{Refusal}
 use Rattle.rules.specs.declared.Refusal.TheVariants.{PartialRecord, ShortOutput, UnknownCurve, UnknownWidth, UnknownEi, CodeAboveTop, SceneOutOfRange, FloatNotFinite, FloatOutOfRange, NoPixel, CodeBelowFirst, NoMatrix, CodeNotDivisible, GradedOutOfRange, ReelFull, NotHeld}
-use Rattle.rules.specs.declared.Check.{Check}
-use Rattle.rules.specs.declared.Check.TheVariants.{Passed, Refused}
+use Rattle.rules.specs.declared.RefusedAt.{RefusedAt}
 
 abbrev pub number_of : Refusal → ℕ
 -- strips: input is not a whole number of records
@@ -41,16 +40,31 @@ number_of ReelFull = 15
 -- "16, replace at an index not held or drop from an empty reel"
 number_of NotHeld = 16
 
+-- what a call answers that gives an A or refuses
+abbrev pub OrRefusal : Type 0 → Type 0
+OrRefusal A = Result A Refusal
+
+-- a check that passes gives nothing else
+abbrev pub Check : Type 0
+Check = OrRefusal (Unit {0})
+
+-- what a conversion of a strip answers: the count of records, or the cause and the record's index
+abbrev pub Answer : Type 0
+Answer = Result ℕ RefusedAt
+
+abbrev pub refused_at : Refusal → (index : ℕ) → Answer
+refused_at why k = Err (record { cause = why; index = k })
+
 -- the second check's answer where the first passes
 abbrev pub then : Check → Check → Check
-then Passed next = next
-then (Refused r) next = Refused r
+then (Ok tt) next = next
+then (Err r) next = Err r
 
 -- the number of a check's answer; 0 where it passes
 abbrev pub number_of_check : Check → ℕ
-number_of_check Passed = 0
-number_of_check (Refused r) = number_of r
+number_of_check (Ok tt) = 0
+number_of_check (Err r) = number_of r
 
 -- refused by r unless the test passes
 abbrev pub refuse_unless : Bool → Refusal → Check
-refuse_unless test r = choose test Passed (Refused r)
+refuse_unless test r = choose test (Ok tt) (Err r)

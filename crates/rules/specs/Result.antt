@@ -1,12 +1,8 @@
--- 01, "Refused, by the place of the check" and "Which form to use where": what a call gives, whatever enum answers it. "Where an answer is an
--- enum, a definition gives this paper's number and values for each case of the enum": each enum has one that leads here.
+-- 01, "Refused, by the place of the check" and "Which form to use where": what a call gives, whatever it answers. "Where an answer is an
+-- enum, a definition gives this paper's number and values for each case of the enum": `answered` and `strip_result` do.
 -- Assumes nothing.
-use Rattle.std.specs.Prelude.{List, [], ◌∷◌, ℕ}
-use Rattle.rules.specs.declared.Answer.{Answer}
-use Rattle.rules.specs.declared.Answer as answer
-use Rattle.rules.specs.declared.Check.{Check}
-use Rattle.rules.specs.declared.Check as check
-use Rattle.rules.specs.Refusal.{number_of}
+use Rattle.std.specs.Prelude.{List, [], ◌∷◌, ℕ, Err, Ok}
+use Rattle.rules.specs.Refusal.{Answer, Check, OrRefusal, number_of}
 
 -- the number, 0 for success; the index; the values
 pub record Result (A : Type 0) : Type 0 where
@@ -23,13 +19,18 @@ refused_by number index = record { number = number; index = index; values = [] }
 
 -- a call on a single pixel or record: values where its checks pass, else the refusal, whose index is 0
 abbrev pub single : {A : Type 0} → Check → List A → Result A
-single check.Check.Passed values = done values
-single (check.Check.Refused why) values = refused_by (number_of why) 0
+single (Ok tt) values = done values
+single (Err why) values = refused_by (number_of why) 0
+
+-- the answer of such a call: the values of what it gives, or the refusal
+abbrev pub answered : {A B : Type 0} → (A → List B) → OrRefusal A → Result B
+answered values (Ok x) = done (values x)
+answered values (Err why) = refused_by (number_of why) 0
 
 -- a conversion of strips: "Success carries the count of records"
 abbrev pub strip_result : Answer → Result ℕ
-strip_result (answer.Answer.Done n) = done (n ∷ [])
-strip_result (answer.Answer.Refused why k) = refused_by (number_of why) k
+strip_result (Ok n) = done (n ∷ [])
+strip_result (Err e) = refused_by (number_of e.cause) e.index
 
 -- every value is as P says
 abbrev pub Each : {A : Type 0} → (A → Type 0) → List A → Type 0

@@ -1,14 +1,12 @@
 -- 01, "Records and settings", and 02, items 1 to 3 and 5: the settings there are, their checks, and their codes.
 -- Assumes nothing.
-use Rattle.std.specs.Prelude.{Bool, true, false, List, [], ◌∷◌, map, ◌≡◌, ℕ, ◌+◌, ◌-◌, ◌*◌, ◌/◌, ◌%◌, ◌^◌, eqb, leb}
+use Rattle.std.specs.Prelude.{Bool, true, false, List, [], ◌∷◌, map, ◌≡◌, ℕ, ◌+◌, ◌-◌, ◌*◌, ◌/◌, ◌%◌, ◌^◌, eqb, leb, Ok}
 use Rattle.rules.specs.declared.Setting.{Setting}
 use Rattle.rules.specs.declared.CurveName.{CurveName}
 use Rattle.rules.specs.declared.CurveName.TheVariants.{LogC2, LogC3, LogC4, Unknown}
-use Rattle.rules.specs.declared.Check.{Check}
-use Rattle.rules.specs.declared.Check.TheVariants.{Passed}
+use Rattle.rules.specs.Refusal.{Check, then, refuse_unless}
 use Rattle.rules.specs.declared.Refusal.TheVariants.{UnknownCurve, UnknownWidth, UnknownEi, CodeAboveTop, CodeBelowFirst, NoMatrix, CodeNotDivisible}
 use Rattle.rules.specs.Choice.{choose, member}
-use Rattle.rules.specs.Refusal.{then, refuse_unless}
 use Rattle.rules.specs.Curve.{Curve, log_c4, log_c, Row, log_c2_rows, log_c3_rows, no_constants, constants_at}
 
 -- ---- the curve that a number names, and what there is for each. Everything else goes by its cases.
@@ -57,7 +55,7 @@ setting_check s =
 
 -- "A setting is valid where it passes the table's setting checks."
 abbrev pub Valid : Setting → Type 0
-Valid s = setting_check s ≡ Passed
+Valid s = setting_check s ≡ Ok tt
 
 -- ---- 02, item 3, refusal 12: "curve 2 in a conversion to or from ACES, checked after 5"
 abbrev pub has_matrix : CurveName → Bool
@@ -71,7 +69,7 @@ aces_check s = then (setting_check s) (refuse_unless (has_matrix (named s.curve)
 
 -- 02, item 3: "there a setting of curve 2 isn't valid"
 abbrev pub ValidForAces : Setting → Type 0
-ValidForAces s = aces_check s ≡ Passed
+ValidForAces s = aces_check s ≡ Ok tt
 
 -- ---- the codes of a setting. They are numbered by steps from 0: all that is said of a curve is said of steps.
 

@@ -1,15 +1,11 @@
 -- 01, "Refused, by the place of the check", and the strips of "Records and settings": a strip is a list of bytes, records of one size
 -- one after the other. These definitions hold for every conversion; a conversion is a value.
 -- Assumes nothing.
-use Rattle.std.specs.Prelude.{List, [], ◌∷◌, ◌++◌, ◌≡◌, ℕ, zero, suc, ◌*◌, ◌/◌, ◌%◌, leb, eqb, length, take, drop}
-use Rattle.rules.specs.declared.Answer.{Answer}
-use Rattle.rules.specs.declared.Answer.TheVariants.{Done, Refused}
-use Rattle.rules.specs.declared.Check.{Check}
-use Rattle.rules.specs.declared.Check as check
+use Rattle.std.specs.Prelude.{List, [], ◌∷◌, ◌++◌, ◌≡◌, ℕ, zero, suc, ◌*◌, ◌/◌, ◌%◌, leb, eqb, length, take, drop, Err, Ok}
+use Rattle.rules.specs.Refusal.{Answer, refused_at, Check, then}
 use Rattle.rules.specs.declared.Refusal.TheVariants.{PartialRecord, ShortOutput}
 use Rattle.rules.specs.declared.Setting.{Setting}
 use Rattle.rules.specs.Choice.{choose}
-use Rattle.rules.specs.Refusal.{then}
 use Rattle.rules.specs.Result.{Result, strip_result}
 use Rattle.rules.specs.Record.{setting_of}
 
@@ -42,12 +38,12 @@ written bytes (r ∷ rs) = bytes r ++ written bytes rs
 
 -- the answer for a record that is the k-th, and for those after it
 abbrev pub or_next : Check → ℕ → Answer → Answer
-or_next check.Check.Passed k next = next
-or_next (check.Check.Refused why) k next = Refused why k
+or_next (Ok tt) k next = next
+or_next (Err why) k next = refused_at why k
 
 -- "record by record": the refusal of the first record that is refused, counted from k, or the count
 unfoldable pub scan : (List ℕ → Check) → ℕ → List (List ℕ) → Answer
-scan f k [] = Done k
+scan f k [] = Ok k
 scan f k (r ∷ rs) = or_next (f r) k (scan f (suc k) rs)
 
 abbrev pub scan_of : Conversion → (n : ℕ) → List ℕ → Answer
@@ -57,14 +53,14 @@ scan_of c n strip = scan (record_check c) 0 (records c.from n strip)
 unfoldable pub answer_of : Conversion → (input output : List ℕ) → Answer
 answer_of c input output =
     choose (eqb (length input % c.from) 0)
-    (choose (leb (length input / c.from * c.to) (length output)) (scan_of c (length input / c.from) input) (Refused ShortOutput 0))
-    (Refused PartialRecord 0)
+    (choose (leb (length input / c.from * c.to) (length output)) (scan_of c (length input / c.from) input) (refused_at ShortOutput 0))
+    (refused_at PartialRecord 0)
 
 -- "A refusal .. no output byte differs. Success carries the count of records; each record is written in its own stretch of the output strip,
 -- and bytes beyond the last are unchanged."
 unfoldable pub output_after : Conversion → (input output : List ℕ) → Answer → List ℕ
-output_after c input output (Done n) = written c.bytes (records c.from n input) ++ drop (n * c.to) output
-output_after c input output (Refused why k) = output
+output_after c input output (Ok n) = written c.bytes (records c.from n input) ++ drop (n * c.to) output
+output_after c input output (Err e) = output
 
 -- what the call gives, and the output strip after it
 abbrev pub result_of : Conversion → (input output : List ℕ) → Result ℕ

@@ -10,7 +10,7 @@ pub struct Setting {
     pub ei: u16,
 }
 
-// The curve that a setting names.
+// The curve that a setting names. (Not an Option: each table of the rules has a row for a number that names none, and so no case is left out.)
 #[derive(Clone, Copy)]
 pub enum CurveName {
     LogC2,
@@ -39,49 +39,28 @@ pub struct Aces(pub i64);
 #[derive(Clone, Copy)]
 pub struct Half(pub u16);
 
-// A pixel: its three codes.
+// One of a kind for each channel.
 #[derive(Clone, Copy)]
-pub struct Pixel {
-    pub red: Code,
-    pub green: Code,
-    pub blue: Code,
+pub struct Rgb<T> {
+    pub red: T,
+    pub green: T,
+    pub blue: T,
 }
+
+// A pixel: its three codes.
+pub type Pixel = Rgb<Code>;
 
 // Three ACES numbers.
-#[derive(Clone, Copy)]
-pub struct Triple {
-    pub red: Aces,
-    pub green: Aces,
-    pub blue: Aces,
-}
+pub type Triple = Rgb<Aces>;
 
 // Three scene numbers.
-#[derive(Clone, Copy)]
-pub struct Scenes {
-    pub red: Scene,
-    pub green: Scene,
-    pub blue: Scene,
-}
+pub type Scenes = Rgb<Scene>;
 
 // How far the numbers of a record may be from those of the pixel that a way back finds: not at all, or as far as the tolerant one allows.
 #[derive(Clone, Copy)]
 pub enum Distance {
     Exact,
     Tolerant,
-}
-
-// What the way back finds.
-#[derive(Clone, Copy)]
-pub enum Found {
-    Pixel(Pixel),
-    Nothing,
-}
-
-// What becomes of a record that the lister reads: three ACES numbers, or the refusal.
-#[derive(Clone, Copy)]
-pub enum Outcome {
-    Aces(Triple),
-    Refused(Refusal),
 }
 
 // Why a conversion refuses: the rows of the table "Refused, by the place of the check".
@@ -105,18 +84,11 @@ pub enum Refusal {
     NotHeld,
 }
 
-// What a check answers.
+// Why a strip is refused, and the index of the record that is. (Where the strip itself is, the index is 0.)
 #[derive(Clone, Copy)]
-pub enum Check {
-    Passed,
-    Refused(Refusal),
-}
-
-// What a conversion of a strip answers: the count of records, or the refusal with the record's index.
-#[derive(Clone, Copy)]
-pub enum Answer {
-    Done(usize),
-    Refused(Refusal, usize),
+pub struct RefusedAt {
+    pub cause: Refusal,
+    pub index: usize,
 }
 
 // What is kept of a reel beside its records: how many it holds, and the sum of their scene numbers in each channel, a signed number by its 64 bits.
@@ -126,11 +98,4 @@ pub struct Totals {
     pub red: u64,
     pub green: u64,
     pub blue: u64,
-}
-
-// What a call on a reel answers: what is then kept, or the refusal.
-#[derive(Clone, Copy)]
-pub enum ReelAnswer {
-    Done(Totals),
-    Refused(Refusal),
 }

@@ -14,9 +14,9 @@ use curves::log_c::LogC;
 use curves::log_c2::LogC2;
 use curves::log_c3::LogC3;
 use curves::log_c4::LogC4;
-use rules::{Check, CurveName, Refusal, Setting};
+use rules::{CurveName, Refusal, Setting};
 
-// The number of a refusal.
+// The number of a refusal. (A match and no number of the enum's own: edits such as refusals_exchanged hold each number here.)
 pub fn refusal_number(r: Refusal) -> u8
     ensures { result ≡ number_of r }
 {
@@ -41,71 +41,60 @@ pub fn refusal_number(r: Refusal) -> u8
 }
 
 // Refusals 4 and 5, where the curve has the width or not, and the EI or not.
-fn check_limits(width: bool, ei: bool) -> Check
+fn check_limits(width: bool, ei: bool) -> Result<(), Refusal>
     ensures { result ≡ then (refuse_unless width UnknownWidth) (refuse_unless ei UnknownEi) }
 {
     if !width {
-        return Check::Refused(Refusal::UnknownWidth);
+        return Err(Refusal::UnknownWidth);
     }
     if !ei {
-        return Check::Refused(Refusal::UnknownEi);
+        return Err(Refusal::UnknownEi);
     }
-    Check::Passed
+    Ok(())
 }
 
 // Refusals 3, 4 and 5.
 #[tactic(auto, unfolding(rules::specs::Setting::setting_check))]
-pub fn check_setting(s: Setting) -> Check
+pub fn check_setting(s: Setting) -> Result<(), Refusal>
     ensures { result ≡ setting_check s }
 {
     match curves::name_of(s.curve) {
         CurveName::LogC2 => check_limits(LogC2::has_width(s.width), LogC::has_ei(s.ei)),
         CurveName::LogC3 => check_limits(LogC3::has_width(s.width), LogC::has_ei(s.ei)),
         CurveName::LogC4 => check_limits(LogC4::has_width(s.width), LogC4::has_ei(s.ei)),
-        CurveName::Unknown => Check::Refused(Refusal::UnknownCurve),
+        CurveName::Unknown => Err(Refusal::UnknownCurve),
     }
 }
 
 // Refusal 12.
-fn check_matrix(s: Setting) -> Check
+fn check_matrix(s: Setting) -> Result<(), Refusal>
     ensures { result ≡ refuse_unless (has_matrix (named s.curve)) NoMatrix }
 {
     if curves::has_matrix(s.curve) {
-        Check::Passed
+        Ok(())
     } else {
-        Check::Refused(Refusal::NoMatrix)
+        Err(Refusal::NoMatrix)
     }
 }
 
 // A number from one end to the other, which are among them, or the refusal.
-pub fn check_between(low: i64, x: i64, high: i64, cause: Refusal) -> Check
+pub fn check_between(low: i64, x: i64, high: i64, cause: Refusal) -> Result<(), Refusal>
     ensures { result ≡ refuse_unless (choose (le_z low x) (le_z x high) false) cause }
 {
     if low <= x && x <= high {
-        Check::Passed
+        Ok(())
     } else {
-        Check::Refused(cause)
-    }
-}
-
-// The second check's answer where the first passes.
-pub fn first_refusal(first: Check, second: Check) -> Check
-    ensures { result ≡ then first second }
-{
-    match first {
-        Check::Passed => second,
-        Check::Refused(why) => Check::Refused(why),
+        Err(cause)
     }
 }
 
 // Refusals 3, 4 and 5, then 12: the checks of a setting in a conversion to or from ACES.
 #[tactic(auto, unfolding(rules::specs::Setting::aces_check))]
-pub fn check_for_aces(s: Setting) -> Check
+pub fn check_for_aces(s: Setting) -> Result<(), Refusal>
     ensures { result ≡ aces_check s }
 {
-    let setting = check_setting(s);
-    let matrix = check_matrix(s);
-    first_refusal(setting, matrix)
+    check_setting(s)?;
+    check_matrix(s)
 }
 
 // The four bytes of a setting as one number; curve and width have one byte each.
@@ -115,8 +104,8 @@ fn word(s: Setting) -> u32
     s.curve as u32 + 256 * (s.width as u32) + 65536 * (s.ei as u32)
 }
 
-// Whether two settings are the same. (By one number of each: every record's setting is compared with that of the record
-// before it, and part by part that took up to 5 % more of pixel to ACES.)
+// Whether two settings are the same. (By one number of each, and not by a derived `==`, which goes part by part: every record's
+// setting is compared with that of the record before it, and part by part that took up to 5 % more of pixel to ACES.)
 pub fn same_setting(a: Setting, b: Setting) -> bool
     ensures { result ≡ same_setting a b }
 {

@@ -2,14 +2,13 @@
 
 #![tactic(auto)]
 
-ghost use Rattle.std.specs.Prelude.{◌≡◌, ◌^◌, ◌≤◌, ◌<◌};
-ghost use Rattle.rules.specs.declared.Check.TheVariants.{Passed};
+ghost use Rattle.std.specs.Prelude.{◌≡◌, ◌^◌, ◌≤◌, ◌<◌, Ok};
 ghost use Rattle.rules.specs.Pixels.{each_code, codes_check};
 ghost use Rattle.rules.specs.Setting.{top_of, codes_of, last_of, code_at, step_of, code_among, code_check, Valid};
 ghost use Rattle.setting_codes.specs.LogC4.{is_log_c4, low_zeros};
 
 use curves::log_c4::LogC4;
-use rules::{Check, Code, Pixel, Refusal, Setting, Step};
+use rules::{Code, Pixel, Refusal, Setting, Step};
 
 // The legal range of 12 bits, at curve 4: its width byte, its first code and its last step.
 const LEGAL: u8 = 140;
@@ -27,7 +26,7 @@ const RECORDER_ZEROS: u8 = 4;
 const RECORDER_APART: u16 = 1 << RECORDER_ZEROS;
 
 // The top code of a width of 1 to 16 bits, two to the width, less one. 0 for any other number. (Of width 0 the
-// shift gives 0 too.)
+// shift gives 0 too.) (0 and no Option: C gets it.)
 pub fn top_code(width: u8) -> Code
     ensures { result.0 ≡ top_of width }
 {
@@ -40,7 +39,7 @@ pub fn top_code(width: u8) -> Code
     Code(code)
 }
 
-// Whether a setting is of curve 4 at a width.
+// Whether a setting is of curve 4 at a width. (By the number, as the checks below go: no other curve has codes of its own.)
 #[tactic(auto, unfolding(crate::specs::LogC4::is_log_c4))]
 fn is_log_c4(s: Setting, width: u8) -> bool
     ensures { result ≡ is_log_c4 s width }
@@ -72,7 +71,8 @@ pub fn last_step(s: Setting) -> Step
 }
 
 // The first code of a setting, that of step 0: 256 at width 140, else 0. Only that width is 128 or
-// more, and a test of it took 6 % of the instructions of pixel to ACES.
+// more, and a test of it took 6 % of the instructions of pixel to ACES. (That a setting is valid is a clause
+// in this crate, and no type: a prepared setting is of a crate above.)
 fn first_code(s: Setting) -> Code
     requires { Valid s }
     ensures { result.0 ≡ (codes_of s).first }
@@ -97,7 +97,7 @@ pub fn code_at(s: Setting, i: Step) -> Code
 // the rules, for each code or for three at once, took 23 to 30 % more of the way back's time.)
 pub fn step_of(s: Setting, n: Code) -> Step
     requires valid { Valid s }
-    requires n_value { code_check s n.0 ≡ Passed }
+    requires n_value { code_check s n.0 ≡ Ok tt }
     ensures { result.0 ≡ step_of s n.0 }
 {
     let first = first_code(s).0 as u64;
@@ -108,42 +108,35 @@ pub fn step_of(s: Setting, n: Code) -> Step
 }
 
 // Refusals 13, 11 and 6, of a code beside the distance of codes, the first code and the top code.
-fn check_among(first: Code, apart: u16, top: Code, n: Code) -> Check
+fn check_among(first: Code, apart: u16, top: Code, n: Code) -> Result<(), Refusal>
     requires { 0 < apart }
     ensures { result ≡ code_among first.0 apart top.0 n.0 }
 {
     if n.0 % apart != 0 {
-        return Check::Refused(Refusal::CodeNotDivisible);
+        return Err(Refusal::CodeNotDivisible);
     }
     if n.0 < first.0 {
-        return Check::Refused(Refusal::CodeBelowFirst);
+        return Err(Refusal::CodeBelowFirst);
     }
-    if n.0 <= top.0 {
-        Check::Passed
-    } else {
-        Check::Refused(Refusal::CodeAboveTop)
+    if n.0 > top.0 {
+        return Err(Refusal::CodeAboveTop);
     }
+    Ok(())
 }
 
 // The checks of a pixel's codes, likewise: the first code that is refused decides.
-fn check_three(first: Code, apart: u16, top: Code, p: Pixel) -> Check
+fn check_three(first: Code, apart: u16, top: Code, p: Pixel) -> Result<(), Refusal>
     requires { 0 < apart }
     ensures { result ≡ each_code (code_among first.0 apart top.0) p }
 {
-    let red = check_among(first, apart, top, p.red);
-    let Check::Passed = red else {
-        return red;
-    };
-    let green = check_among(first, apart, top, p.green);
-    let Check::Passed = green else {
-        return green;
-    };
+    check_among(first, apart, top, p.red)?;
+    check_among(first, apart, top, p.green)?;
     check_among(first, apart, top, p.blue)
 }
 
 // The same, of a setting. (Each call has the numbers of its codes in it, so that the compiler drops the
 // tests that never fail: of the full range those with 1 and 0.)
-pub fn check_pixel(s: Setting, p: Pixel) -> Check
+pub fn check_pixel(s: Setting, p: Pixel) -> Result<(), Refusal>
     ensures { result ≡ codes_check s p }
 {
     if s.curve != LogC4::NUMBER {
@@ -161,7 +154,7 @@ pub fn check_pixel(s: Setting, p: Pixel) -> Check
 }
 
 // The check of one code: that of a pixel with this code in each channel.
-pub fn check_code(s: Setting, n: Code) -> Check
+pub fn check_code(s: Setting, n: Code) -> Result<(), Refusal>
     ensures { result ≡ code_check s n.0 }
 {
     check_pixel(

@@ -1,6 +1,7 @@
 -- Two conversions of which the second takes what the first writes, record by record, to what `f` makes of the record: then it takes what the
 -- first writes of a strip to that. Where that is the record itself, the strip comes back, and two strips that the first writes alike are one.
 -- Assumes nothing.
+use Rattle.std.specs.Prelude.{Ok}
 use mathlib.Core.Path.{◌≡◌, refl, ap, sym, ◌∙◌}
 use mathlib.Core.Bool.{Bool, true, false}
 use mathlib.Core.Logic.{◌↔◌}
@@ -12,9 +13,7 @@ use borrow.Author.Tests.{eqb-true, leb-true}
 use lib.Dec.{leb, eqb}
 use lib.ListN.{length, take, drop, length-drop}
 use lib.Seq.{take_at, drop_at, take-add, take-length, drop-nil, length-take-le}
-use Rattle.rules.specs.declared.Answer.TheVariants.{Done, Refused}
-use Rattle.rules.specs.declared.Check.{Check}
-use Rattle.rules.specs.declared.Check as check
+use Rattle.rules.specs.Refusal.{refused_at}
 use Rattle.rules.specs.declared.Refusal.TheVariants.{PartialRecord, ShortOutput}
 use Rattle.rules.specs.Choice.{choose}
 use Rattle.rules.specs.Record.{IsBytes}
@@ -31,7 +30,7 @@ AllGood c [] = Unit {0}
 AllGood c (r ∷ rs) = Good c r × AllGood c rs
 
 -- the records of a strip that is not refused are good
-good_records : (c : Conversion) (n : ℕ) (s : List ℕ) (k m : ℕ) → n * c.from ≤ length s → IsBytes s → Done m ≡ scan (record_check c) k (records c.from n s)
+good_records : (c : Conversion) (n : ℕ) (s : List ℕ) (k m : ℕ) → n * c.from ≤ length s → IsBytes s → Ok m ≡ scan (record_check c) k (records c.from n s)
     → AllGood c (records c.from n s)
 unfolding scan records
 good_records c zero s k m room h e = tt
@@ -62,17 +61,17 @@ written_records size (suc n) s =
 pub record Whole (c : Conversion) (input output : List ℕ) (n : ℕ) : Type 0 where
   pub long : length input ≡ n * c.from
   pub room : n * c.to ≤ length output
-  pub passes : Done n ≡ scan_of c n input
+  pub passes : Ok n ≡ scan_of c n input
 
 module _ (c : Conversion) (input output : List ℕ) (n : ℕ) where
-  pub done_whole : Done n ≡ answer_of c input output → Whole c input output n
+  pub done_whole : Ok n ≡ answer_of c input output → Whole c input output n
   unfolding answer_of
   done_whole e = go (eqb (length input % c.from) 0) (leb (length input / c.from * c.to) (length output)) refl refl e
     where
       go : (a b : Bool) → eqb (length input % c.from) 0 ≡ a → leb (length input / c.from * c.to) (length output) ≡ b
-          → Done n ≡ choose a (choose b (scan_of c (length input / c.from) input) (Refused ShortOutput 0)) (Refused PartialRecord 0) → Whole c input output n
+          → Ok n ≡ choose a (choose b (scan_of c (length input / c.from) input) (refused_at ShortOutput 0)) (refused_at PartialRecord 0) → Whole c input output n
       go true true p q e =
-          let m : n ≡ length input / c.from = counted c (length input / c.from) input (Done n) n e refl in
+          let m : n ≡ length input / c.from = counted c (length input / c.from) input (Ok n) n e refl in
           record {
             long = rw m (omega (arith, eqb-true (length input % c.from) 0 p, div-add-mod' (length input) c.from));
             room = rw m (leb-true _ _ q);
@@ -81,7 +80,7 @@ module _ (c : Conversion) (input output : List ℕ) (n : ℕ) where
       go true false p q e = never e
       go false b p q e = never e
 
-  pub whole_done : 0 < c.from → Whole c input output n → Done n ≡ answer_of c input output
+  pub whole_done : 0 < c.from → Whole c input output n → Ok n ≡ answer_of c input output
   whole_done p w = w.passes ∙ sym (whole_answer c input output n p w.long w.room)
 
 -- the records of a whole strip, one after the other, are the strip
@@ -103,13 +102,13 @@ image c input n = written c.bytes (records c.from n input)
 
 -- it begins the output
 pub image_is : (c : Conversion) → ((r : List ℕ) → length (c.bytes r) ≡ c.to) → (input output : List ℕ) (n : ℕ)
-    → take (n * c.to) (output_after c input output (Done n)) ≡ image c input n
+    → take (n * c.to) (output_after c input output (Ok n)) ≡ image c input n
 unfolding output_after
 image_is c long input output n = take_at (image c input n) _ (n * c.to) (length_written c.bytes c.to long c.from n input)
 
 module _ (c : Conversion) (long : (r : List ℕ) → length (c.bytes r) ≡ c.to) (d : Conversion) (f : List ℕ → List ℕ)
-    (back : (r : List ℕ) → Good c r → (record_check d (c.bytes r) ≡ check.Check.Passed) × (d.bytes (c.bytes r) ≡ f r)) where
-  scan_back : (rs : List (List ℕ)) (k : ℕ) → AllGood c rs → Done (k + length rs) ≡ scan (record_check d) k (map c.bytes rs)
+    (back : (r : List ℕ) → Good c r → (record_check d (c.bytes r) ≡ Ok tt) × (d.bytes (c.bytes r) ≡ f r)) where
+  scan_back : (rs : List (List ℕ)) (k : ℕ) → AllGood c rs → Ok (k + length rs) ≡ scan (record_check d) k (map c.bytes rs)
   unfolding scan
   scan_back [] k g = rw add-zero
   scan_back (r ∷ rs) k g = rw ((back r g.0).0, add-suc, ← suc-add) (scan_back rs (suc k) g.1)
@@ -134,13 +133,13 @@ module _ (c : Conversion) (long : (r : List ℕ) → length (c.bytes r) ≡ c.to
           room = room;
           passes =
               let e : n ≡ 0 + length (records c.from n input) = omega (arith, length_records c.from n input) in
-              ap Done e
+              ap Ok e
               ∙ scan_back (records c.from n input) 0 good
               ∙ ap (λ (l : List (List ℕ)). scan (record_check d) 0 l) (sym again);
         }
 
     -- and writes what f makes of the first's input
-    pub next_written : (to : ℕ) (other : List ℕ) → output_after (next c d to) (image c input n) other (Done n) ≡ written f (records c.from n input) ++ drop (n * to) other
+    pub next_written : (to : ℕ) (other : List ℕ) → output_after (next c d to) (image c input n) other (Ok n) ≡ written f (records c.from n input) ++ drop (n * to) other
     unfolding output_after
     next_written to other = rw (again, written_back _ good)
 
@@ -148,22 +147,22 @@ module _ (c : Conversion) (long : (r : List ℕ) → length (c.bytes r) ≡ c.to
     pub back_whole : (other : List ℕ) → length input ≤ length other → Whole (reverse c d) (image c input n) other n
     back_whole other room = next_whole c.from other (omega (arith, w.long))
 
-    pub back_written : (other : List ℕ) → output_after (reverse c d) (image c input n) other (Done n) ≡ written f (records c.from n input) ++ drop (length input) other
+    pub back_written : (other : List ℕ) → output_after (reverse c d) (image c input n) other (Ok n) ≡ written f (records c.from n input) ++ drop (length input) other
     back_written other = next_written c.from other ∙ ap (λ (k : ℕ). written f (records c.from n input) ++ drop k other) (sym w.long)
 
   -- THE TWO CONVERSIONS, one after the other
-  pub one_after_other : 0 < c.to → (to : ℕ) (input output other : List ℕ) (n : ℕ) → IsBytes input → Done n ≡ answer_of c input output → n * to ≤ length other
-      → (Done n ≡ answer_of (next c d to) (take (n * c.to) (output_after c input output (Done n))) other)
-      × (output_after (next c d to) (take (n * c.to) (output_after c input output (Done n))) other (Done n) ≡ written f (records c.from n input) ++ drop (n * to) other)
+  pub one_after_other : 0 < c.to → (to : ℕ) (input output other : List ℕ) (n : ℕ) → IsBytes input → Ok n ≡ answer_of c input output → n * to ≤ length other
+      → (Ok n ≡ answer_of (next c d to) (take (n * c.to) (output_after c input output (Ok n))) other)
+      × (output_after (next c d to) (take (n * c.to) (output_after c input output (Ok n))) other (Ok n) ≡ written f (records c.from n input) ++ drop (n * to) other)
   one_after_other p to input output other n h e room =
       let w = done_whole c input output n e in
       rw (image_is c long input output n)
       (whole_done (next c d to) (image c input n) other n p (next_whole input output n h w to other room), next_written input output n h w to other)
 
   -- there and back
-  pub round_trip_to : 0 < c.to → (input output other : List ℕ) (n : ℕ) → IsBytes input → Done n ≡ answer_of c input output → length input ≤ length other
-      → (Done n ≡ answer_of (reverse c d) (take (n * c.to) (output_after c input output (Done n))) other)
-      × (output_after (reverse c d) (take (n * c.to) (output_after c input output (Done n))) other (Done n) ≡ written f (records c.from n input) ++ drop (length input) other)
+  pub round_trip_to : 0 < c.to → (input output other : List ℕ) (n : ℕ) → IsBytes input → Ok n ≡ answer_of c input output → length input ≤ length other
+      → (Ok n ≡ answer_of (reverse c d) (take (n * c.to) (output_after c input output (Ok n))) other)
+      × (output_after (reverse c d) (take (n * c.to) (output_after c input output (Ok n))) other (Ok n) ≡ written f (records c.from n input) ++ drop (length input) other)
   round_trip_to p input output other n h e room =
       let w = done_whole c input output n e in
       let t = one_after_other p c.from input output other n h e (omega (arith, w.long)) in
@@ -171,17 +170,17 @@ module _ (c : Conversion) (long : (r : List ℕ) → length (c.bytes r) ≡ c.to
 
 -- ---- to the record itself
 module _ (c : Conversion) (long : (r : List ℕ) → length (c.bytes r) ≡ c.to) (d : Conversion)
-    (back : (r : List ℕ) → Good c r → (record_check d (c.bytes r) ≡ check.Check.Passed) × (d.bytes (c.bytes r) ≡ r)) where
+    (back : (r : List ℕ) → Good c r → (record_check d (c.bytes r) ≡ Ok tt) × (d.bytes (c.bytes r) ≡ r)) where
   -- and writes the first's input
   pub itself_written : (input output other : List ℕ) (n : ℕ) → IsBytes input → Whole c input output n
-      → output_after (reverse c d) (image c input n) other (Done n) ≡ input ++ drop (length input) other
+      → output_after (reverse c d) (image c input n) other (Ok n) ≡ input ++ drop (length input) other
   itself_written input output other n h w =
       back_written c long d (λ r. r) back input output n h w other ∙ ap (λ (l : List ℕ). l ++ drop (length input) other) (whole_strip c.from n input w.long)
 
   -- THE TWO CONVERSIONS, one after the other, give the strip back
-  pub round_trip : 0 < c.to → (input output other : List ℕ) (n : ℕ) → IsBytes input → Done n ≡ answer_of c input output → length input ≤ length other
-      → (Done n ≡ answer_of (reverse c d) (take (n * c.to) (output_after c input output (Done n))) other)
-      × (output_after (reverse c d) (take (n * c.to) (output_after c input output (Done n))) other (Done n) ≡ input ++ drop (length input) other)
+  pub round_trip : 0 < c.to → (input output other : List ℕ) (n : ℕ) → IsBytes input → Ok n ≡ answer_of c input output → length input ≤ length other
+      → (Ok n ≡ answer_of (reverse c d) (take (n * c.to) (output_after c input output (Ok n))) other)
+      × (output_after (reverse c d) (take (n * c.to) (output_after c input output (Ok n))) other (Ok n) ≡ input ++ drop (length input) other)
   round_trip p input output other n h e room =
       let t = round_trip_to c long d (λ r. r) back p input output other n h e room in
       (t.0, t.1 ∙ ap (λ (l : List ℕ). l ++ drop (length input) other) (whole_strip c.from n input (done_whole c input output n e).long))
@@ -190,14 +189,14 @@ module _ (c : Conversion) (long : (r : List ℕ) → length (c.bytes r) ≡ c.to
   pub same_strip : (input input' output output' : List ℕ) (n : ℕ) → IsBytes input → IsBytes input' → Whole c input output n → Whole c input' output' n
       → image c input n ≡ image c input' n → input ≡ input'
   same_strip input input' output output' n h h' w w' e =
-      let p : output_after (reverse c d) (image c input n) [] (Done n) ≡ input ++ drop (length input) [] = itself_written input output [] n h w in
-      let q : output_after (reverse c d) (image c input' n) [] (Done n) ≡ input' ++ drop (length input') [] = itself_written input' output' [] n h' w' in
-      sym (rw (drop-nil, append-nil) at p) ∙ ap (λ (l : List ℕ). output_after (reverse c d) l [] (Done n)) e ∙ rw (drop-nil, append-nil) at q
+      let p : output_after (reverse c d) (image c input n) [] (Ok n) ≡ input ++ drop (length input) [] = itself_written input output [] n h w in
+      let q : output_after (reverse c d) (image c input' n) [] (Ok n) ≡ input' ++ drop (length input') [] = itself_written input' output' [] n h' w' in
+      sym (rw (drop-nil, append-nil) at p) ∙ ap (λ (l : List ℕ). output_after (reverse c d) l [] (Ok n)) e ∙ rw (drop-nil, append-nil) at q
 
   -- TWO STRIPS ARE ONE exactly where what is written of them is one
   pub same_written : (input input' output output' : List ℕ) (n : ℕ) → IsBytes input → IsBytes input'
-      → Done n ≡ answer_of c input output → Done n ≡ answer_of c input' output'
-      → (input ≡ input') ↔ (take (n * c.to) (output_after c input output (Done n)) ≡ take (n * c.to) (output_after c input' output' (Done n)))
+      → Ok n ≡ answer_of c input output → Ok n ≡ answer_of c input' output'
+      → (input ≡ input') ↔ (take (n * c.to) (output_after c input output (Ok n)) ≡ take (n * c.to) (output_after c input' output' (Ok n)))
   same_written input input' output output' n h h' e e' =
       let w = done_whole c input output n e in
       let w' = done_whole c input' output' n e' in

@@ -1,5 +1,6 @@
 -- A strip may be cut at a record's border and converted in parts, one after the other.
 -- Assumes nothing.
+use Rattle.std.specs.Prelude.{Err, Ok}
 use mathlib.Core.Path.{◌≡◌, refl, ap, ap₂, sym, ◌∙◌}
 use mathlib.Core.List.{List, [], ◌∷◌, ◌++◌, append_assoc, append-nil}
 use Prim.Native.Nat.{ℕ, suc, ◌+◌, ◌*◌, ◌/◌, ◌%◌, ◌≤◌, ◌<◌}
@@ -8,10 +9,7 @@ use native.Mathlib.Omega.{arith}
 use borrow.Author.Tests.{eq-eqb, le-leb, lt-leb}
 use lib.ListN.{length, drop, length-append, drop_of_length-le}
 use lib.Seq.{drop-append-add}
-use Rattle.rules.specs.declared.Answer.{Answer}
-use Rattle.rules.specs.declared.Answer.TheVariants.{Done, Refused}
-use Rattle.rules.specs.declared.Check.{Check}
-use Rattle.rules.specs.declared.Check as check
+use Rattle.rules.specs.Refusal.{Answer, refused_at, Check}
 use Rattle.rules.specs.declared.Refusal.TheVariants.{ShortOutput}
 use Rattle.rules.specs.Strip.{Conversion, record_check, records, written, or_next, scan, scan_of, answer_of, output_after, Converts}
 use Rattle.strip.specs.Join.{moved, followed}
@@ -24,13 +22,13 @@ scan_moved f j k [] = refl
 scan_moved f j k (r ∷ rs) = go (f r) (ap (λ (i : ℕ). scan f i rs) (sym (add-suc j k)) ∙ scan_moved f j (suc k) rs)
   where
     go : (x : Check) → scan f (suc (j + k)) rs ≡ moved j (scan f (suc k) rs) → or_next x (j + k) (scan f (suc (j + k)) rs) ≡ moved j (or_next x k (scan f (suc k) rs))
-    go check.Check.Passed ih = ih
-    go (check.Check.Refused why) ih = refl
+    go (Ok tt) ih = ih
+    go (Err why) ih = refl
 
 -- go on from a count
 abbrev resumed : Answer → (ℕ → Answer) → Answer
-resumed (Done m) next = next m
-resumed (Refused why k) next = Refused why k
+resumed (Ok m) next = next m
+resumed (Err e) next = Err e
 
 scan_append : (f : List ℕ → Check) (k : ℕ) (xs ys : List (List ℕ)) → scan f k (xs ++ ys) ≡ resumed (scan f k xs) (λ m. scan f m ys)
 unfolding scan
@@ -39,15 +37,15 @@ scan_append f k (r ∷ rs) ys = go (f r) (scan_append f (suc k) rs ys)
   where
     go : (x : Check) → scan f (suc k) (rs ++ ys) ≡ resumed (scan f (suc k) rs) (λ m. scan f m ys)
         → or_next x k (scan f (suc k) (rs ++ ys)) ≡ resumed (or_next x k (scan f (suc k) rs)) (λ m. scan f m ys)
-    go check.Check.Passed ih = ih
-    go (check.Check.Refused why) ih = refl
+    go (Ok tt) ih = ih
+    go (Err why) ih = refl
 
 scan_join : (f : List ℕ → Check) (xs ys : List (List ℕ)) → scan f 0 (xs ++ ys) ≡ followed (scan f 0 xs) (scan f 0 ys)
 scan_join f xs ys = scan_append f 0 xs ys ∙ go (scan f 0 xs)
   where
     go : (a : Answer) → resumed a (λ m. scan f m ys) ≡ followed a (scan f 0 ys)
-    go (Done m) = ap (λ (i : ℕ). scan f i ys) (sym (add-zero m)) ∙ scan_moved f m 0 ys
-    go (Refused why k) = refl
+    go (Ok m) = ap (λ (i : ℕ). scan f i ys) (sym (add-zero m)) ∙ scan_moved f m 0 ys
+    go (Err e) = refl
 
 -- ---- the answer for a whole number of records with room
 pub whole_answer : (c : Conversion) (input output : List ℕ) (n : ℕ) → 0 < c.from → length input ≡ n * c.from → n * c.to ≤ length output → answer_of c input output ≡ scan_of c n input
@@ -58,7 +56,7 @@ whole_answer c input output n p e room =
     rw (eq-eqb _ 0 z, d, le-leb _ _ room)
 
 -- and without room
-pub short_answer : (c : Conversion) (input output : List ℕ) (n : ℕ) → 0 < c.from → length input ≡ n * c.from → length output < n * c.to → answer_of c input output ≡ Refused ShortOutput 0
+pub short_answer : (c : Conversion) (input output : List ℕ) (n : ℕ) → 0 < c.from → length input ≡ n * c.from → length output < n * c.to → answer_of c input output ≡ refused_at ShortOutput 0
 unfolding answer_of
 short_answer c input output n p e short =
     let d : length input / c.from ≡ n = rw e (mul-div_cancel n p) in
@@ -66,7 +64,7 @@ short_answer c input output n p e short =
     rw (eq-eqb _ 0 z, d, lt-leb _ _ short)
 
 -- EMPTY INPUT succeeds with 0, and leaves the output as it was
-pub empty_input : (c : Conversion) (output : List ℕ) → 0 < c.from → Converts c [] output (Done 0) output
+pub empty_input : (c : Conversion) (output : List ℕ) → 0 < c.from → Converts c [] output (Ok 0) output
 unfolding scan records written output_after
 empty_input c output p =
     record {
@@ -85,7 +83,7 @@ module _ (c : Conversion) (p : 0 < c.from) (a b o₁ o₂ : List ℕ) (m n : ℕ
       ∙ sym (ap₂ followed (whole_answer c a o₁ m p ea (omega arith)) (whole_answer c b o₂ n p eb room))
 
   -- THE OUTPUT of a joined strip is that of its parts, one after the other
-  pub outputs_join : output_after c (a ++ b) (o₁ ++ o₂) (Done (m + n)) ≡ output_after c a o₁ (Done m) ++ output_after c b o₂ (Done n)
+  pub outputs_join : output_after c (a ++ b) (o₁ ++ o₂) (Ok (m + n)) ≡ output_after c a o₁ (Ok m) ++ output_after c b o₂ (Ok n)
   unfolding output_after
   outputs_join =
       rw (records_append c.from m n a b ea, written_append, behind, drop_of_length-le o₁ {i = m * c.to} (omega arith), append-nil, append_assoc)

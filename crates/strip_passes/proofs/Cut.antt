@@ -5,7 +5,7 @@ use mathlib.Core.List.{List, [], ◌∷◌}
 use Prim.Native.Nat.{ℕ, suc, ◌+◌, ◌-◌, ◌*◌, ◌≤◌, ◌<◌}
 use native.Mathlib.Nat.{zero-mul, sub-zero, sub_self}
 use native.Mathlib.Omega.{arith}
-use lib.ListN.{length, take, drop, length-take, length-drop}
+use lib.ListN.{length, drop}
 use lib.Seq.{drop-drop}
 use Rattle.rules.specs.Strip.{records, record_at}
 use Rattle.rules.proofs.Strips.{next, length_at}
@@ -23,10 +23,6 @@ pub read_at : {n k size from : ℕ} {s r : List ℕ} → size ≡ from → k < n
 read_at {n} {k} {size} {from} {s} e h room f =
     let is = f ∙ ap (λ (m : ℕ). record_at m k s) e in
     record { is = is; long = ap length is ∙ length_at from n k s room h }
-
--- the k-th stretch that is lent, `&mut out[k * size..k * size + size]`
-pub length_lent : (k : ℕ) (out : List ℕ) {size to : ℕ} → size ≡ to → k * size + size ≤ length out → length (take (k * size + size - k * size) (drop (k * size) out)) ≡ to
-length_lent k out e h = simp (length-take, length-drop) (omega arith)
 
 drop_next : (size k : ℕ) (s : List ℕ) → drop size (drop (k * size) s) ≡ drop ((k + 1) * size) s
 drop_next size k s = rw (next, drop-drop)

@@ -1,4 +1,4 @@
-pub mod Begin
 pub mod Cut
+pub mod Prepared
 pub mod FirstPass
 pub mod SecondPass

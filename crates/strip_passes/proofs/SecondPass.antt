@@ -1,12 +1,12 @@
 -- The second pass: a loop that writes each record in its own stretch.
 -- Assumes nothing.
+use Rattle.std.specs.Prelude.{Ok}
 use mathlib.Core.Path.{◌≡◌, refl, ap, ◌∙◌, subst}
 use mathlib.Core.List.{List, ◌++◌}
 use Prim.Native.Nat.{ℕ, ◌+◌, ◌*◌, ◌≤◌, ◌<◌}
 use native.Mathlib.Nat.{le_antisymm, mul-le-mul_right, zero-mul}
 use native.Mathlib.Omega.{arith}
 use lib.ListN.{length, drop, length-append, length-drop}
-use Rattle.rules.specs.declared.Answer.TheVariants.{Done}
 use Rattle.rules.specs.Strip.{Conversion, records, record_at, written, output_after}
 use Rattle.little_endian.proofs.Stretch.{pasted, behind}
 use Rattle.rules.proofs.Strips.{next, records_more, written_append, written_one, length_written}
@@ -41,7 +41,7 @@ module _ (c : Conversion) (long : (r : List ℕ) → length (c.bytes r) ≡ c.to
       rw q (record { upto = omega arith; long = ap length r ∙ filled_long (k + 1) (omega arith); is = r })
 
   -- every record is written
-  pub filled_end : (k : ℕ) (after : List ℕ) → n ≤ k → Filled c n input output k after → after ≡ output_after c input output (Done n)
+  pub filled_end : (k : ℕ) (after : List ℕ) → n ≤ k → Filled c n input output k after → after ≡ output_after c input output (Ok n)
   unfolding output_after
   filled_end k after h w =
       subst (λ (m : ℕ). after ≡ written c.bytes (records c.from m input) ++ drop (m * c.to) output) (le_antisymm w.upto h) w.is

@@ -4,10 +4,9 @@
 
 #![tactic(auto)]
 
-use decode::Decoding;
-use rules::{Code, Setting};
+use rules::{Code, Refusal, Scene, Setting};
 
-// The standard streams.
+// The standard streams. (Read and written by the kit's io: std's would rest the program on one more axiom, os::c::rattle_errno.)
 const STDIN_FILENO: i32 = 0;
 
 const STDOUT_FILENO: i32 = 1;
@@ -16,22 +15,18 @@ fn print_number(z: i64) {
     if z < 0 {
         io::write_all(STDOUT_FILENO, b"-");
     }
-    io::print_decimal(STDOUT_FILENO, whole::magnitude(z));
+    io::print_decimal(STDOUT_FILENO, z.unsigned_abs());
 }
 
-fn print_answer(a: Decoding) {
+fn print_answer(a: Result<Scene, Refusal>) {
     match a {
-        Decoding::Scene(y) => print_number(y.0),
-        Decoding::Refused(r) => {
+        Ok(y) => print_number(y.0),
+        Err(why) => {
             io::write_all(STDOUT_FILENO, b"refused ");
-            io::print_decimal(STDOUT_FILENO, setting::refusal_number(r) as u64);
+            io::print_decimal(STDOUT_FILENO, setting::refusal_number(why) as u64);
         }
     }
     io::write_all(STDOUT_FILENO, b"\n");
-}
-
-fn word(low: u8, high: u8) -> u16 {
-    low as u16 + 256 * (high as u16)
 }
 
 // One record: whether there may be another.
@@ -46,19 +41,22 @@ fn one() -> bool {
         }
         return false;
     }
+    let [curve, width, ei_low, ei_high, low, high] = b;
     let s = Setting {
-        curve: b[0],
-        width: b[1],
-        ei: word(b[2], b[3]),
+        curve,
+        width,
+        ei: u16::from_le_bytes([ei_low, ei_high]),
     };
-    print_answer(decode::decode(s, Code(word(b[4], b[5]))));
+    print_answer(decode::decode(s, Code(u16::from_le_bytes([low, high]))));
     true
 }
 
-// A proved loop has to end: this one counts down from a number that no input uses up.
+// A proved loop has to end: this one has more turns than any input uses up. (Each test program has this loop: a crate for it would be
+// longer than the loop.)
 fn main() {
-    let mut turns = u64::MAX;
-    while turns > 0 && one() {
-        turns -= 1;
+    for _ in 0..u64::MAX {
+        if !one() {
+            break;
+        }
     }
 }

@@ -6,18 +6,17 @@
 
 ghost use Rattle.std.specs.Prelude.{◌≤◌};
 
-use float_decode::{FloatDecoding, FloatPixel};
-use float_encode::FloatEncoding;
-use rules::{Code, Pixel, Setting};
+use float_decode::FloatPixel;
+use rules::{Code, Pixel, Refusal, Setting};
 
-// The standard streams.
+// The standard streams. (Read and written by the kit's io: std's would rest the program on one more axiom, os::c::rattle_errno.)
 const STDIN_FILENO: i32 = 0;
 
 const STDOUT_FILENO: i32 = 1;
 
-fn print_refusal(number: u8) {
+fn print_refusal(why: Refusal) {
     io::write_all(STDOUT_FILENO, b"refused ");
-    io::print_decimal(STDOUT_FILENO, number as u64);
+    io::print_decimal(STDOUT_FILENO, setting::refusal_number(why) as u64);
 }
 
 fn print_three(red: u64, green: u64, blue: u64) {
@@ -29,66 +28,64 @@ fn print_three(red: u64, green: u64, blue: u64) {
 }
 
 fn bits_of(x: f64) -> u64 {
-    if x != x { 0 } else { f64::to_bits(x) }
+    if x.is_nan() { 0 } else { x.to_bits() }
 }
 
 fn float_with(bits: u64) -> f64 {
     if bits & 0x7fff_ffff_ffff_ffff > 0x7ff0_0000_0000_0000 {
-        0.0 / 0.0
+        f64::NAN
     } else {
         f64::from_bits(bits)
     }
 }
 
-fn print_floats(a: FloatDecoding) {
+fn print_floats(a: Result<FloatPixel, Refusal>) {
     match a {
-        FloatDecoding::Pixel(f) => print_three(bits_of(f.red), bits_of(f.green), bits_of(f.blue)),
-        FloatDecoding::Refused(number) => print_refusal(number),
+        Ok(f) => print_three(bits_of(f.red), bits_of(f.green), bits_of(f.blue)),
+        Err(why) => print_refusal(why),
     }
 }
 
-fn print_codes(a: FloatEncoding) {
+fn print_codes(a: Result<Pixel, Refusal>) {
     match a {
-        FloatEncoding::Pixel(p) => print_three(p.red.0 as u64, p.green.0 as u64, p.blue.0 as u64),
-        FloatEncoding::Refused(number) => print_refusal(number),
+        Ok(p) => print_three(p.red.0 as u64, p.green.0 as u64, p.blue.0 as u64),
+        Err(why) => print_refusal(why),
     }
 }
 
-// Two bytes, and eight, low byte first.
-fn word(low: u8, high: u8) -> u16 {
-    low as u16 + 256 * (high as u16)
-}
+// Where the channels of a record begin, each of eight bytes.
+const RED: usize = 5;
 
-fn wide(x: u8) -> u64 {
-    x as u64
-}
+const GREEN: usize = 13;
 
-fn long(b: &[u8; 29], at: usize) -> u64
+const BLUE: usize = 21;
+
+fn code_at(b: &[u8; 29], at: usize) -> Code
     requires { at ≤ 21 }
 {
-    wide(b[at])
-        | wide(b[at + 1]) << 8
-        | wide(b[at + 2]) << 16
-        | wide(b[at + 3]) << 24
-        | wide(b[at + 4]) << 32
-        | wide(b[at + 5]) << 40
-        | wide(b[at + 6]) << 48
-        | wide(b[at + 7]) << 56
+    Code(u16::from_le_bytes([b[at], b[at + 1]]))
 }
 
+fn float_at(b: &[u8; 29], at: usize) -> f64
+    requires { at ≤ 21 }
+{
+    float_with(u64::from_le_bytes(b[at..at + 8].try_into().unwrap()))
+}
+
+// The codes, and the floats, channel by channel. (A closure's clauses would be longer than the three lines.)
 fn pixel_in(b: &[u8; 29]) -> Pixel {
     Pixel {
-        red: Code(word(b[5], b[6])),
-        green: Code(word(b[13], b[14])),
-        blue: Code(word(b[21], b[22])),
+        red: code_at(b, RED),
+        green: code_at(b, GREEN),
+        blue: code_at(b, BLUE),
     }
 }
 
 fn floats_in(b: &[u8; 29]) -> FloatPixel {
     FloatPixel {
-        red: float_with(long(b, 5)),
-        green: float_with(long(b, 13)),
-        blue: float_with(long(b, 21)),
+        red: float_at(b, RED),
+        green: float_at(b, GREEN),
+        blue: float_at(b, BLUE),
     }
 }
 
@@ -96,7 +93,7 @@ fn answer(b: &[u8; 29]) {
     let s = Setting {
         curve: b[1],
         width: b[2],
-        ei: word(b[3], b[4]),
+        ei: u16::from_le_bytes([b[3], b[4]]),
     };
     if b[0] == 0 {
         print_floats(float_decode::decode_pixel(s, pixel_in(b)));
@@ -116,10 +113,12 @@ fn one() -> bool {
     true
 }
 
-// A proved loop has to end: this one counts down from a number that no input uses up.
+// A proved loop has to end: this one has more turns than any input uses up. (Each test program has this loop: a crate for it would be
+// longer than the loop.)
 fn main() {
-    let mut turns = u64::MAX;
-    while turns > 0 && one() {
-        turns -= 1;
+    for _ in 0..u64::MAX {
+        if !one() {
+            break;
+        }
     }
 }

@@ -3,11 +3,10 @@
 
 #![tactic(auto)]
 
-use graded::Graded;
 use records::NUMBERS_SIZE;
-use rules::{Scene, Scenes};
+use rules::{Refusal, Scene, Scenes};
 
-// The standard streams.
+// The standard streams. (Read and written by the kit's io: std's would rest the program on one more axiom, os::c::rattle_errno.)
 const STDIN_FILENO: i32 = 0;
 
 const STDOUT_FILENO: i32 = 1;
@@ -17,7 +16,7 @@ fn print_number(x: Scene) {
     if number < 0 {
         io::write_all(STDOUT_FILENO, b"-");
     }
-    io::print_decimal(STDOUT_FILENO, whole::magnitude(number));
+    io::print_decimal(STDOUT_FILENO, number.unsigned_abs());
 }
 
 fn print_scenes(x: Scenes) {
@@ -28,10 +27,10 @@ fn print_scenes(x: Scenes) {
     print_number(x.blue);
 }
 
-fn print_answer(a: Graded) {
+fn print_answer(a: Result<Scenes, Refusal>) {
     match a {
-        Graded::Scenes(x) => print_scenes(x),
-        Graded::Refused(why) => {
+        Ok(x) => print_scenes(x),
+        Err(why) => {
             io::write_all(STDOUT_FILENO, b"refused ");
             io::print_decimal(STDOUT_FILENO, setting::refusal_number(why) as u64);
         }
@@ -45,14 +44,16 @@ fn one() -> bool {
     if io::read_full(STDIN_FILENO, &mut r) < NUMBERS_SIZE {
         return false;
     }
-    print_answer(graded::to_scene(records::setting_of(&r), records::triple_in(&r)));
+    print_answer(graded::to_scene(records::setting_of(&r), records::channels_in(&r)));
     true
 }
 
-// A proved loop has to end: this one counts down from a number that no input uses up.
+// A proved loop has to end: this one has more turns than any input uses up. (Each test program has this loop: a crate for it would be
+// longer than the loop.)
 fn main() {
-    let mut turns = u64::MAX;
-    while turns > 0 && one() {
-        turns -= 1;
+    for _ in 0..u64::MAX {
+        if !one() {
+            break;
+        }
     }
 }

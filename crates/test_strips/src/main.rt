@@ -5,30 +5,31 @@
 
 #![tactic(auto)]
 
-use rules::Answer;
+use rules::RefusedAt;
 
-// The standard streams.
+// The standard streams. (Read and written by the kit's io: std's would rest the program on one more axiom, os::c::rattle_errno.)
 const STDIN_FILENO: i32 = 0;
 
 const STDOUT_FILENO: i32 = 1;
 
-fn print_answer(a: Answer) {
+fn print_answer(a: Result<usize, RefusedAt>) {
     match a {
-        Answer::Done(n) => {
+        Ok(n) => {
             io::write_all(STDOUT_FILENO, b"done ");
             io::print_decimal(STDOUT_FILENO, n as u64);
         }
-        Answer::Refused(why, at) => {
+        Err(e) => {
             io::write_all(STDOUT_FILENO, b"refused ");
-            io::print_decimal(STDOUT_FILENO, setting::refusal_number(why) as u64);
+            io::print_decimal(STDOUT_FILENO, setting::refusal_number(e.cause) as u64);
             io::write_all(STDOUT_FILENO, b" ");
-            io::print_decimal(STDOUT_FILENO, at as u64);
+            io::print_decimal(STDOUT_FILENO, e.index as u64);
         }
     }
     io::write_all(STDOUT_FILENO, b"\n");
 }
 
-fn convert(conversion: u8, input: &[u8], output: &mut [u8]) -> Answer {
+// Which conversion is a byte of the job, so this goes by it.
+fn convert(conversion: u8, input: &[u8], output: &mut [u8]) -> Result<usize, RefusedAt> {
     match conversion {
         0 => strip::pixel_to_scene(input, output),
         1 => strip::scene_to_pixel(input, output),
@@ -40,10 +41,6 @@ fn convert(conversion: u8, input: &[u8], output: &mut [u8]) -> Answer {
         7 => strip::graded_to_scene(input, output),
         _ => strip::aces_to_pixel_tolerant(input, output),
     }
-}
-
-fn word(low: u8, high: u8) -> u16 {
-    low as u16 + 256 * (high as u16)
 }
 
 // A job whose strips have their lengths.
@@ -60,18 +57,21 @@ fn one() -> bool {
     if io::read_full(STDIN_FILENO, &mut head) < 5 {
         return false;
     }
-    let n = word(head[1], head[2]) as usize;
-    let m = word(head[3], head[4]) as usize;
+    let [conversion, n_low, n_high, m_low, m_high] = head;
+    let n = usize::from(u16::from_le_bytes([n_low, n_high]));
+    let m = usize::from(u16::from_le_bytes([m_low, m_high]));
     let mut input = io::large_buffer();
     let mut output = io::large_buffer();
-    job(head[0], &mut input[0..n], &mut output[0..m]);
+    job(conversion, &mut input[0..n], &mut output[0..m]);
     true
 }
 
-// A proved loop has to end: this one counts down from a number that no input uses up.
+// A proved loop has to end: this one has more turns than any input uses up. (Each test program has this loop: a crate for it would be
+// longer than the loop.)
 fn main() {
-    let mut turns = u64::MAX;
-    while turns > 0 && one() {
-        turns -= 1;
+    for _ in 0..u64::MAX {
+        if !one() {
+            break;
+        }
     }
 }

@@ -4,10 +4,9 @@
 #![tactic(auto)]
 
 use records::NUMBERS_SIZE;
-use rules::{Distance, Pixel};
-use way_back::Back;
+use rules::{Distance, Pixel, Refusal};
 
-// The standard streams.
+// The standard streams. (Read and written by the kit's io: std's would rest the program on one more axiom, os::c::rattle_errno.)
 const STDIN_FILENO: i32 = 0;
 
 const STDOUT_FILENO: i32 = 1;
@@ -20,10 +19,10 @@ fn print_codes(p: Pixel) {
     io::print_decimal(STDOUT_FILENO, p.blue.0 as u64);
 }
 
-fn print_answer(a: Back) {
+fn print_answer(a: Result<Pixel, Refusal>) {
     match a {
-        Back::Pixel(p) => print_codes(p),
-        Back::Refused(why) => {
+        Ok(p) => print_codes(p),
+        Err(why) => {
             io::write_all(STDOUT_FILENO, b"refused ");
             io::print_decimal(STDOUT_FILENO, setting::refusal_number(why) as u64);
         }
@@ -37,7 +36,7 @@ fn one() -> bool {
         return false;
     }
     let s = records::setting_of(&r);
-    let a = records::triple_in(&r);
+    let a = records::channels_in(&r);
     print_answer(way_back::way_back(Distance::Exact, s, a));
     io::write_all(STDOUT_FILENO, b" | ");
     print_answer(way_back::way_back(Distance::Tolerant, s, a));
@@ -45,10 +44,12 @@ fn one() -> bool {
     true
 }
 
-// A proved loop has to end: this one counts down from a number that no input uses up.
+// A proved loop has to end: this one has more turns than any input uses up. (Each test program has this loop: a crate for it would be
+// longer than the loop.)
 fn main() {
-    let mut turns = u64::MAX;
-    while turns > 0 && one() {
-        turns -= 1;
+    for _ in 0..u64::MAX {
+        if !one() {
+            break;
+        }
     }
 }

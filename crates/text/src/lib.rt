@@ -1,4 +1,5 @@
-// Text in a buffer: bytes, words and decimal numbers, put one behind the other.
+// Text in a buffer: bytes, words and decimal numbers, put one behind the other. (The buffer and the place in it stay two arguments: a
+// struct of both would hold the `&mut`, and no clause would be plainer.)
 
 #![tactic(auto)]
 
@@ -7,7 +8,7 @@ ghost use Rattle.text.specs.Put.{Room, Put};
 ghost use Rattle.rules.specs.Decimal.{decimal, signed};
 ghost use Rattle.rules.specs.Lister.{followed};
 
-const MINUS: u8 = 45;
+const MINUS: u8 = b'-';
 
 // One byte.
 fn put_byte(out: &mut [u8], at: usize, b: u8) -> usize
@@ -23,24 +24,22 @@ pub fn put_word(out: &mut [u8], at: usize, word: &[u8]) -> usize
     requires { Room word.now out.old at }
     ensures { Put word.now out.old at out.new result }
 {
-    let mut i = 0;
-    while i < word.len() {
-        out[at + i] = word[i];
-        i += 1;
-    }
-    at + i
+    let end = at + word.len();
+    out[at..end].copy_from_slice(word);
+    end
 }
 
-// The digits of a number.
+// The digits of a number. (By hand: no clause says what bytes `write!`
+// writes. By recursion: docs/DECISIONS.md.)
 fn put_decimal(out: &mut [u8], at: usize, n: u64) -> usize
     requires { Room (decimal n) out.old at }
     ensures { Put (decimal n) out.old at out.new result }
 {
     if n < 10 {
-        return put_byte(out, at, 48 + n as u8);
+        return put_byte(out, at, b'0' + n as u8);
     }
     let last = put_decimal(out, at, n / 10);
-    put_byte(out, last, 48 + (n % 10) as u8)
+    put_byte(out, last, b'0' + (n % 10) as u8)
 }
 
 // A signed number.
@@ -50,9 +49,9 @@ fn put_signed(out: &mut [u8], at: usize, z: i64) -> usize
 {
     if z < 0 {
         let then = put_byte(out, at, MINUS);
-        put_decimal(out, then, whole::magnitude(z))
+        put_decimal(out, then, z.unsigned_abs())
     } else {
-        put_decimal(out, at, whole::magnitude(z))
+        put_decimal(out, at, z.unsigned_abs())
     }
 }
 
@@ -65,7 +64,7 @@ pub fn put_number(out: &mut [u8], at: usize, n: u64, b: u8) -> usize
     put_byte(out, then, b)
 }
 
-// A signed number, and the byte behind it.
+// A signed number, and the byte behind it. (Beside `put_number`, since a u64 is no i64: one of both would take a trait of two impls.)
 pub fn put_signed_number(out: &mut [u8], at: usize, z: i64, b: u8) -> usize
     requires { Room (followed (signed z) b) out.old at }
     ensures { Put (followed (signed z) b) out.old at out.new result }

@@ -1,5 +1,6 @@
 -- 02, item 8: THE TOLERANT WAY BACK, of any one record and of every strip of bytes, settings mixed.
 -- Assumes nothing.
+use Rattle.std.specs.Prelude.{Err, None, Ok, Option, Some}
 use mathlib.Core.Logic.{◌↔◌, ◌⊎◌, inl, inr}
 use mathlib.Core.Path.{◌≡◌, refl, ap, sym, ◌∙◌}
 use mathlib.Core.List.{List, [], ◌∷◌, ◌++◌}
@@ -8,19 +9,14 @@ use native.Mathlib.Omega.{arith}
 use lib.Dec.{lit<}
 use lib.ListN.{length, drop}
 use Rattle.whole.proofs.Apart.{less_or_not}
-use Rattle.rules.specs.declared.Check.{Check}
-use Rattle.rules.specs.declared.Check.TheVariants.{Passed, Refused}
+use Rattle.rules.specs.Refusal.{Check, number_of}
 use Rattle.rules.specs.declared.Distance.{Distance}
 use Rattle.rules.specs.declared.Distance.TheVariants.{Exact, Tolerant}
-use Rattle.rules.specs.declared.Found.{Found}
-use Rattle.rules.specs.declared.Found as found
-use Rattle.rules.specs.declared.Pixel.{Pixel}
+use Rattle.rules.specs.Triples.{Pixel, Triple}
 use Rattle.rules.specs.declared.Refusal.TheVariants.{ShortOutput, NoPixel}
 use Rattle.rules.specs.declared.Setting.{Setting}
-use Rattle.rules.specs.declared.Triple.{Triple}
 use Rattle.rules.specs.Pixels.{IsPixel}
 use Rattle.rules.specs.Record.{IsBytes, setting_of, triple_in, pixel_size, numbers_size}
-use Rattle.rules.specs.Refusal.{number_of}
 use Rattle.rules.specs.Result.{done, refused_by, strip_result}
 use Rattle.rules.specs.Setting.{aces_check, ValidForAces}
 use Rattle.rules.specs.Strip.{record_check, record_at, answer_of, output_after, result_of, strip_after}
@@ -74,15 +70,15 @@ moved_returns pixels aces output n a m room =
     taken.moved_returns Tolerant pixels aces output n a m.long (λ k i. (m.each k i).setting) (λ k i. (m.each k i).near) room
 
 -- ---- either road
-back_as_exact : (r : List ℕ) → record_check aces_to_pixel r ≡ Passed → (record_check aces_to_pixel_tolerant r ≡ Passed) × (aces_to_pixel_tolerant.bytes r ≡ aces_to_pixel.bytes r)
+back_as_exact : (r : List ℕ) → record_check aces_to_pixel r ≡ Ok tt → (record_check aces_to_pixel_tolerant r ≡ Ok tt) × (aces_to_pixel_tolerant.bytes r ≡ aces_to_pixel.bytes r)
 back_as_exact r e =
     let v = both (aces_check (setting_of r)) (found_check (pixel_for exact (setting_of r) (triple_in r))) e in
     go v.0 (pixel_for exact (setting_of r) (triple_in r)) refl v.1
   where
-    go : ValidForAces (setting_of r) → (f : Found) → pixel_for exact (setting_of r) (triple_in r) ≡ f → found_check f ≡ Passed
-        → (record_check aces_to_pixel_tolerant r ≡ Passed) × (aces_to_pixel_tolerant.bytes r ≡ aces_to_pixel.bytes r)
-    go v (found.Found.Pixel p) f k = let t = exact_then_either Tolerant (setting_of r) v (triple_in r) p f in (rw (v, t), rw (t, f))
-    go v found.Found.Nothing f k = refused_never k
+    go : ValidForAces (setting_of r) → (f : Option Pixel) → pixel_for exact (setting_of r) (triple_in r) ≡ f → found_check f ≡ Ok tt
+        → (record_check aces_to_pixel_tolerant r ≡ Ok tt) × (aces_to_pixel_tolerant.bytes r ≡ aces_to_pixel.bytes r)
+    go v (Some p) f k = let t = exact_then_either Tolerant (setting_of r) v (triple_in r) p f in (rw (v, t), rw (t, f))
+    go v None f k = refused_never k
 
 -- WHERE THE EXACT WAY BACK CONVERTS a strip, the tolerant one gives the same count and the same bytes
 pub tolerant_as_exact : (aces output : List ℕ) (n : ℕ) → result_of aces_to_pixel aces output ≡ done (n ∷ [])
@@ -134,7 +130,7 @@ module _ (s : Setting) (a : Triple) where
   unfolding way_back_result
   tolerant_one_as_exact = go (aces_check s) refl (pixel_for exact s a) refl
     where
-      go : (x : Check) → aces_check s ≡ x → (f : Found) → pixel_for exact s a ≡ f → (way_back_result exact s a).number ≡ 0 → way_back_result tolerated s a ≡ way_back_result exact s a
-      go (Refused why) e f g z = rw e
-      go Passed e (found.Found.Pixel p) g z = let t = exact_then_either Tolerant s e a p g in rw (e, g, t)
-      go Passed e found.Found.Nothing g z = let n : number_of NoPixel ≡ 0 = rw (e, g) at z in absurd (omega arith)
+      go : (x : Check) → aces_check s ≡ x → (f : Option Pixel) → pixel_for exact s a ≡ f → (way_back_result exact s a).number ≡ 0 → way_back_result tolerated s a ≡ way_back_result exact s a
+      go (Err why) e f g z = rw e
+      go (Ok tt) e (Some p) g z = let t = exact_then_either Tolerant s e a p g in rw (e, g, t)
+      go (Ok tt) e None g z = let n : number_of NoPixel ≡ 0 = rw (e, g) at z in absurd (omega arith)

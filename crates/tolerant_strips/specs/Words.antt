@@ -1,9 +1,8 @@
 -- 02, item 8, of one record and of strips: which pixel the tolerant way back returns, and a master that another package moved.
 -- Assumes nothing.
 use Rattle.std.specs.Prelude.{true, List, ◌≡◌, ℕ, ◌*◌, ◌<◌, length}
-use Rattle.rules.specs.declared.Pixel.{Pixel}
+use Rattle.rules.specs.Triples.{Pixel, Triple}
 use Rattle.rules.specs.declared.Setting.{Setting}
-use Rattle.rules.specs.declared.Triple.{Triple}
 use Rattle.rules.specs.Record.{setting_of, triple_in, numbers_size}
 use Rattle.rules.specs.Strip.{record_at}
 use Rattle.rules.specs.WayBack.{within3, tolerated}

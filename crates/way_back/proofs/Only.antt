@@ -1,22 +1,20 @@
 -- The candidate is the only pixel that can give three ACES numbers, or numbers at most e from them; so trying it says what gives them. And so two
 -- pixels whose numbers are at most 2 e apart are one.
 -- Assumes nothing.
+use Rattle.std.specs.Prelude.{None, Ok, Option, Some}
+use Rattle.std.specs.Bool.{then_some}
 use mathlib.Core.Bool.{Bool, true, false}
 use mathlib.Core.Path.{◌≡◌, refl, sym, ap, ◌∙◌, subst}
 use Prim.Native.Nat.{ℕ, ◌+◌, ◌*◌, ◌^◌, ◌<◌, ◌≤◌}
 use lib.Dec.{T, leb, ltb, leb→le, ltb→lt, lit<}
 use lib.IntN.{ℤ, nat_abs}
 use Rattle.whole.proofs.Near.{Near, near_join}
-use Rattle.rules.specs.declared.Pixel.{Pixel}
+use Rattle.rules.specs.Triples.{Pixel, Triple}
 use Rattle.rules.specs.declared.CurveName.{CurveName}
 use Rattle.rules.specs.declared.CurveName.TheVariants.{LogC3, LogC4}
 use Rattle.rules.specs.declared.Distance.{Distance}
 use Rattle.rules.specs.declared.Distance.TheVariants.{Exact, Tolerant}
 use Rattle.rules.specs.declared.Setting.{Setting}
-use Rattle.rules.specs.declared.Triple.{Triple}
-use Rattle.rules.specs.declared.Check.TheVariants.{Passed}
-use Rattle.rules.specs.declared.Found.{Found}
-use Rattle.rules.specs.declared.Found as found
 use Rattle.rules.specs.Setting.{code_at, last_of, code_check, ValidForAces}
 use Rattle.rules.specs.Decoding.{DecodesCode}
 use Rattle.rules.specs.Matrix.{matrix_of}
@@ -62,8 +60,8 @@ near_enough Tolerant = enough_for tolerated tt tt tt
 abbrev pub GivesBy : (e : ℕ) (number : ℕ → ℤ) → Setting → Triple → Pixel → Type 0
 GivesBy e number s a q = search.Gives e number (matrix_of s) (code_at s) (last_of s) a q
 
-module _ (s : Setting) (v : ValidForAces s) (number : ℕ → ℤ) (allowed : (n : ℕ) → code_check s n ≡ Passed → DecodesCode s n (number n)) (e : ℕ) (t : NearEnough e s) (a : Triple) (q : Pixel) (g : GivesBy e number s a q) where
-  small : (n : ℕ) → code_check s n ≡ Passed → nat_abs (number n) ≤ 2 ^ 33
+module _ (s : Setting) (v : ValidForAces s) (number : ℕ → ℤ) (allowed : (n : ℕ) → code_check s n ≡ Ok tt → DecodesCode s n (number n)) (e : ℕ) (t : NearEnough e s) (a : Triple) (q : Pixel) (g : GivesBy e number s a q) where
+  small : (n : ℕ) → code_check s n ≡ Ok tt → nat_abs (number n) ≤ 2 ^ 33
   small n h = decodes_small s (aces_valid s v) n h (number n) (allowed n h)
 
   scenes_small : Small3 (2 ^ 33) (number q.red.0) (number q.green.0) (number q.blue.0)
@@ -78,7 +76,7 @@ module _ (s : Setting) (v : ValidForAces s) (number : ℕ → ℤ) (allowed : (n
   reached_by : all_in_reach a ≡ true
   reached_by = given_reached a (near_aces_small s v _ _ _ scenes_small e t.1 a g.numbers)
 
-  code_by : (i n : ℕ) → code_check s n ≡ Passed → Near (candidate s i a.red.0 a.green.0 a.blue.0) (number n) (2 * e + 1) → code_for s i a ≡ n
+  code_by : (i n : ℕ) → code_check s n ≡ Ok tt → Near (candidate s i a.red.0 a.green.0 a.blue.0) (number n) (2 * e + 1) → code_for s i a ≡ n
   code_by i n h c =
       encode_near s (aces_valid s v) (2 * e + 1 + allowed_apart) t.0 (candidate s i a.red.0 a.green.0 a.blue.0) n h (near_join c (decodes_near s (aces_valid s v) n h (number n) (allowed n h)))
 
@@ -101,7 +99,7 @@ gives_by s number e a p i n =
     }
 
 -- TWO PIXELS whose numbers are at most 2 e apart in every channel are one: the triple in the middle is at most e from both
-pub one_by : (s : Setting) → ValidForAces s → (number : ℕ → ℤ) → ((n : ℕ) → code_check s n ≡ Passed → DecodesCode s n (number n)) → (e : ℕ) → NearEnough e s
+pub one_by : (s : Setting) → ValidForAces s → (number : ℕ → ℤ) → ((n : ℕ) → code_check s n ≡ Ok tt → DecodesCode s n (number n)) → (e : ℕ) → NearEnough e s
     → (p q : Pixel) → IsPixel s p → IsPixel s q → NearTriple (aces_of number (matrix_of s) p) (aces_of number (matrix_of s) q) (2 * e) → p ≡ q
 one_by s v number allowed e t p q i j n =
     let a = aces_of number (matrix_of s) p in
@@ -119,11 +117,11 @@ PixelGives e s a q = GivesBy e (decoded s) s a q
 pub pixel_gives : (e : ℕ) (s : Setting) (a : Triple) (p : Pixel) → IsPixel s p → within3 e a (pixel_aces s p) ≡ true → PixelGives e s a p
 pixel_gives e s a p i h = gives_by s (decoded s) e a p i (within3_near e a (pixel_aces s p) h)
 
-abbrev pub pixel_near : (e : ℕ) → Setting → Triple → Found
+abbrev pub pixel_near : (e : ℕ) → Setting → Triple → Option Pixel
 pixel_near e s a = pixel_with e (decoded s) (matrix_of s) (code_at s) (last_of s) a
 
 -- the candidate is a pixel of the setting
-candidate_passes : (s : Setting) (a : Triple) (i : ℕ) → code_check s (code_for s i a) ≡ Passed
+candidate_passes : (s : Setting) (a : Triple) (i : ℕ) → code_check s (code_for s i a) ≡ Ok tt
 candidate_passes s a i = encoded_passes s (candidate s i a.red.0 a.green.0 a.blue.0)
 
 pub candidate_is_pixel : (s : Setting) (a : Triple) → IsPixel s (candidate_pixel s a)
@@ -143,29 +141,33 @@ module _ (e : ℕ) (s : Setting) (v : ValidForAces s) (t : NearEnough e s) (a : 
   unlike : {x : Bool} {A : Type 0} → x ≡ true → x ≡ false → A
   unlike h f = absurd (subst T (sym h ∙ f) tt)
 
-  pub out_of_reach : all_in_reach a ≡ false → found.Found.Nothing ≡ pixel_near e s a
+  pub out_of_reach : all_in_reach a ≡ false → None ≡ pixel_near e s a
   out_of_reach h = sym (search.none_found e (decoded s) (matrix_of s) (code_at s) (last_of s) a (λ q g. unlike (reached q g) h))
 
   -- the candidate, where it gives such numbers, and else nothing
-  pub candidate_found : within3 e a (pixel_aces s (candidate_pixel s a)) ≡ true → found.Found.Pixel (candidate_pixel s a) ≡ pixel_near e s a
+  pub candidate_found : within3 e a (pixel_aces s (candidate_pixel s a)) ≡ true → Some (candidate_pixel s a) ≡ pixel_near e s a
   candidate_found h = sym (search.gives_found e (decoded s) (matrix_of s) (code_at s) (last_of s) a (candidate_pixel s a) only_candidate (candidate_gives h))
 
-  pub none_else : within3 e a (pixel_aces s (candidate_pixel s a)) ≡ false → found.Found.Nothing ≡ pixel_near e s a
+  pub none_else : within3 e a (pixel_aces s (candidate_pixel s a)) ≡ false → None ≡ pixel_near e s a
   none_else h =
       sym
       (search.none_found e (decoded s) (matrix_of s) (code_at s) (last_of s) a
       (λ q g.
       unlike (near_within3 e a (pixel_aces s (candidate_pixel s a)) (subst (λ (p : Pixel). NearTriple a (pixel_aces s p) e) (only_candidate q g) g.numbers)) h))
 
-  -- and what it finds is the candidate
-  abbrev Found' : Found → Type 0
-  Found' f = (InReach a.red.0 a.green.0 a.blue.0) × (found.Found.Pixel (candidate_pixel s a) ≡ f)
+  pub candidate_tried : (b : Bool) → b ≡ within3 e a (pixel_aces s (candidate_pixel s a)) → then_some b (candidate_pixel s a) ≡ pixel_near e s a
+  candidate_tried true h = candidate_found (sym h)
+  candidate_tried false h = none_else (sym h)
 
-  pub passed_found : found_check (pixel_near e s a) ≡ Passed → Found' (pixel_near e s a)
+  -- and what it finds is the candidate
+  abbrev Found : Option Pixel → Type 0
+  Found f = (InReach a.red.0 a.green.0 a.blue.0) × (Some (candidate_pixel s a) ≡ f)
+
+  pub passed_found : found_check (pixel_near e s a) ≡ Ok tt → Found (pixel_near e s a)
   passed_found h = go (pixel_near e s a) refl h
     where
-      go : (f : Found) → pixel_near e s a ≡ f → found_check f ≡ Passed → Found' f
-      go (found.Found.Pixel p) g h =
+      go : (f : Option Pixel) → pixel_near e s a ≡ f → found_check f ≡ Ok tt → Found f
+      go (Some p) g h =
           let k = search.found_gives e (decoded s) (matrix_of s) (code_at s) (last_of s) a p g in
-          (reached_given a (reached p k), ap found.Found.Pixel (sym (only_candidate p k)))
-      go found.Found.Nothing g h = refused_never h
+          (reached_given a (reached p k), ap Some (sym (only_candidate p k)))
+      go None g h = refused_never h

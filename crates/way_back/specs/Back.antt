@@ -1,27 +1,23 @@
 -- The way back of a setting: the pixel that gives three ACES numbers, or numbers at most e units from them; what the way back over one record
 -- gives; and how far apart the ACES numbers of two pixels are.
 -- Assumes nothing.
-use Rattle.std.specs.Prelude.{ℕ, ℤ}
+use Rattle.rules.specs.Triples.{Pixel, Triple}
+use Rattle.std.specs.Prelude.{ℕ, ℤ, Option}
 use Rattle.rules.specs.declared.Setting.{Setting}
-use Rattle.rules.specs.declared.Triple.{Triple}
-use Rattle.rules.specs.declared.Found.{Found}
-use Rattle.rules.specs.Refusal.{number_of}
-use Rattle.rules.specs.Result.{Result, done, refused_by}
+use Rattle.rules.specs.Refusal.{OrRefusal}
+use Rattle.rules.specs.Result.{Result, answered}
 use Rattle.rules.specs.WayBack.{pixel_by, apart, PixelsApart}
 use Rattle.rules.specs.Calls.{way_back_by}
 use Rattle.decode.specs.Decoded.{decoded}
-use Rattle.way_back.specs.declared.Back.{Back}
-use Rattle.way_back.specs.declared.Back as back
 use Rattle.rules.specs.Pixels.{codes}
 
 -- the pixel of a setting that gives numbers at most e from three ACES numbers
-abbrev pub pixel_for : (e : ℕ) → Setting → Triple → Found
+abbrev pub pixel_for : (e : ℕ) → Setting → Triple → Option Pixel
 pixel_for e = pixel_by e decoded
 
 -- the number and the values of each case of the answer: the codes of the pixel
-abbrev pub back_result : Back → Result ℕ
-back_result (back.Back.Pixel p) = done (codes p)
-back_result (back.Back.Refused why) = refused_by (number_of why) 0
+abbrev pub back_result : OrRefusal Pixel → Result ℕ
+back_result = answered codes
 
 -- the codes of that pixel, or the refusal of the first check that fails: 3, 4, 5, 12, then 10
 unfoldable pub way_back_result : (e : ℕ) → Setting → Triple → Result ℕ

@@ -2,8 +2,7 @@
 -- Assumes nothing.
 use Rattle.std.specs.Prelude.{Bool, ℕ, ℤ}
 use Rattle.rules.specs.declared.Setting.{Setting}
-use Rattle.rules.specs.declared.Pixel.{Pixel}
-use Rattle.rules.specs.declared.Triple.{Triple}
+use Rattle.rules.specs.Triples.{Pixel, Triple}
 use Rattle.rules.specs.Choice.{between, all_three}
 use Rattle.encode.specs.Encoded.{encoded}
 use Rattle.aces_inverse.specs.Inverse.{candidate, candidates}

@@ -1,4 +1,3 @@
-pub mod Columns
 pub mod Powers
 pub mod Reflect
 pub mod Floor
@@ -10,4 +9,3 @@ pub mod Middle
 pub mod Apart
 pub mod Weight
 pub mod Tests
-mod Signs

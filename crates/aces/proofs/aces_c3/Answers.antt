@@ -21,23 +21,23 @@ rounded f e h = read_back_lem (record { sfits = f }) ∙ (rw h at e)
 
 pub over_million-requires : goal.over_million-requires
 over_million-requires c =
-    let r = read c.requires.number c.requires.number_2 c.requires.number_3 c.products-p.ensures in
+    let r = read c.requires.red c.requires.green c.requires.blue c.products-p.ensures in
     subst Sum (sym r.red) r.red_sum
 
 pub over_million-requires-2 : goal.over_million-requires-2
 over_million-requires-2 c =
-    let r = read c.requires.number c.requires.number_2 c.requires.number_3 c.products-p.ensures in
+    let r = read c.requires.red c.requires.green c.requires.blue c.products-p.ensures in
     subst Sum (sym r.green) r.green_sum
 
 pub over_million-requires-3 : goal.over_million-requires-3
 over_million-requires-3 c =
-    let r = read c.requires.number c.requires.number_2 c.requires.number_3 c.products-p.ensures in
+    let r = read c.requires.red c.requires.green c.requires.blue c.products-p.ensures in
     subst Sum (sym r.blue) r.blue_sum
 
 pub returns : goal.returns
 unfolding aces_number
 returns c =
-    let r = read c.requires.number c.requires.number_2 c.requires.number_3 c.products-p.ensures in
+    let r = read c.requires.red c.requires.green c.requires.blue c.products-p.ensures in
     record {
       red_is = rounded c.over_million.type_inv c.over_million.ensures r.red;
       green_is = rounded c.over_million-2.type_inv c.over_million-2.ensures r.green;

@@ -43,31 +43,31 @@ rounded f e p q k j = read_back_lem (record { sfits = f }) ∙ (rw (p, q, k) at 
 
 pub over_digits-requires : goal.over_digits-requires
 over_digits-requires c =
-    let l = low c.requires.number c.requires.number_2 c.requires.number_3 c.products-l.ensures in
-    let m = middle c.requires.number c.requires.number_2 c.requires.number_3 c.products-m.ensures in
-    let h = high c.requires.number c.requires.number_2 c.requires.number_3 c.products-h.ensures in
-    record { sum = subst Sum (sym l.red) l.red_sum; sum_2 = subst Sum (sym m.red) m.red_sum; sum_3 = subst Sum (sym h.red) h.red_sum }
+    let l = low c.requires.red c.requires.green c.requires.blue c.products-l.ensures in
+    let m = middle c.requires.red c.requires.green c.requires.blue c.products-m.ensures in
+    let h = high c.requires.red c.requires.green c.requires.blue c.products-h.ensures in
+    record { low = subst Sum (sym l.red) l.red_sum; middle = subst Sum (sym m.red) m.red_sum; high = subst Sum (sym h.red) h.red_sum }
 
 pub over_digits-requires-2 : goal.over_digits-requires-2
 over_digits-requires-2 c =
-    let l = low c.requires.number c.requires.number_2 c.requires.number_3 c.products-l.ensures in
-    let m = middle c.requires.number c.requires.number_2 c.requires.number_3 c.products-m.ensures in
-    let h = high c.requires.number c.requires.number_2 c.requires.number_3 c.products-h.ensures in
-    record { sum = subst Sum (sym l.green) l.green_sum; sum_2 = subst Sum (sym m.green) m.green_sum; sum_3 = subst Sum (sym h.green) h.green_sum }
+    let l = low c.requires.red c.requires.green c.requires.blue c.products-l.ensures in
+    let m = middle c.requires.red c.requires.green c.requires.blue c.products-m.ensures in
+    let h = high c.requires.red c.requires.green c.requires.blue c.products-h.ensures in
+    record { low = subst Sum (sym l.green) l.green_sum; middle = subst Sum (sym m.green) m.green_sum; high = subst Sum (sym h.green) h.green_sum }
 
 pub over_digits-requires-3 : goal.over_digits-requires-3
 over_digits-requires-3 c =
-    let l = low c.requires.number c.requires.number_2 c.requires.number_3 c.products-l.ensures in
-    let m = middle c.requires.number c.requires.number_2 c.requires.number_3 c.products-m.ensures in
-    let h = high c.requires.number c.requires.number_2 c.requires.number_3 c.products-h.ensures in
-    record { sum = subst Sum (sym l.blue) l.blue_sum; sum_2 = subst Sum (sym m.blue) m.blue_sum; sum_3 = subst Sum (sym h.blue) h.blue_sum }
+    let l = low c.requires.red c.requires.green c.requires.blue c.products-l.ensures in
+    let m = middle c.requires.red c.requires.green c.requires.blue c.products-m.ensures in
+    let h = high c.requires.red c.requires.green c.requires.blue c.products-h.ensures in
+    record { low = subst Sum (sym l.blue) l.blue_sum; middle = subst Sum (sym m.blue) m.blue_sum; high = subst Sum (sym h.blue) h.blue_sum }
 
 pub returns : goal.returns
 unfolding aces_number
 returns c =
-    let l = low c.requires.number c.requires.number_2 c.requires.number_3 c.products-l.ensures in
-    let m = middle c.requires.number c.requires.number_2 c.requires.number_3 c.products-m.ensures in
-    let h = high c.requires.number c.requires.number_2 c.requires.number_3 c.products-h.ensures in
+    let l = low c.requires.red c.requires.green c.requires.blue c.products-l.ensures in
+    let m = middle c.requires.red c.requires.green c.requires.blue c.products-m.ensures in
+    let h = high c.requires.red c.requires.green c.requires.blue c.products-h.ensures in
     let a = c.args in
     record {
       red_is = rounded c.over_digits.type_inv c.over_digits.ensures l.red m.red h.red (three_digits (entry log_c4_matrix 0 0) (entry log_c4_matrix 0 1) (entry log_c4_matrix 0 2) a.x.0 a.y.0 a.z.0);

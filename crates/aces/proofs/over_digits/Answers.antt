@@ -67,18 +67,18 @@ overflow_add-h-2 c =
     let q = c.requires in
     let a = c.floor_million-carry in
     let b = c.floor_million-second in
-    halved_fits c.args.l c.args.m c.args.h q.sum q.sum_2 q.sum_3 a.type_inv a.ensures b.type_inv b.ensures
+    halved_fits c.args.l c.args.m c.args.h q.low q.middle q.high a.type_inv a.ensures b.type_inv b.ensures
 
 pub floor_million-requires : goal.floor_million-requires
 floor_million-requires c =
     let q = c.requires in
     let a = c.floor_million-carry in
     let b = c.floor_million-second in
-    last_small c.args.l c.args.m c.args.h q.sum q.sum_2 q.sum_3 a.type_inv a.ensures b.type_inv b.ensures
+    last_small c.args.l c.args.m c.args.h q.low q.middle q.high a.type_inv a.ensures b.type_inv b.ensures
 
 pub returns : goal.returns
 returns c =
     let q = c.requires in
     let a = c.floor_million-carry in
     let b = c.floor_million-second in
-    rounded c.args.l c.args.m c.args.h q.sum q.sum_2 q.sum_3 a.type_inv a.ensures b.type_inv b.ensures c.floor_million.type_inv c.floor_million.ensures
+    rounded c.args.l c.args.m c.args.h q.low q.middle q.high a.type_inv a.ensures b.type_inv b.ensures c.floor_million.type_inv c.floor_million.ensures

@@ -37,34 +37,34 @@ module _ (s : Setting) (x y z : ℤ) (v : ValidForAces s) (i : InReach x y z) wh
       (rw (read_back_lem (number_fits red_number), read_back_lem (number_fits green_number), read_back_lem (number_fits blue_number), e) at h)
 
 pub products-h-requires-clause-small_rows : goal.products-h-requires-clause-small_rows
-products-h-requires-clause-small_rows c = subst SmallRows (sym c.high_of.ensures) (high_small c.args.s c.requires.valid_for_aces)
+products-h-requires-clause-small_rows c = subst SmallRows (sym c.digits_of-digits.ensures.high) (high_small c.args.s c.requires.valid_for_aces)
 
 pub over_binary-requires : goal.over_binary-requires
 over_binary-requires c =
     let a = c.args in
     let v = c.requires.valid_for_aces in
     let i = c.requires.in_reach in
-    let l = low a.s a.red.0 a.green.0 a.blue.0 v i c.low_of.ensures c.products-l.ensures in
-    let h = high a.s a.red.0 a.green.0 a.blue.0 v i c.high_of.ensures c.products-h.ensures in
-    record { sum = subst Sum (sym l.red) l.red_sum; sum_2 = subst Sum (sym h.red) h.red_sum }
+    let l = low a.s a.red.0 a.green.0 a.blue.0 v i c.digits_of-digits.ensures.low c.products-l.ensures in
+    let h = high a.s a.red.0 a.green.0 a.blue.0 v i c.digits_of-digits.ensures.high c.products-h.ensures in
+    record { low = subst Sum (sym l.red) l.red_sum; high = subst Sum (sym h.red) h.red_sum }
 
 pub over_binary-requires-2 : goal.over_binary-requires-2
 over_binary-requires-2 c =
     let a = c.args in
     let v = c.requires.valid_for_aces in
     let i = c.requires.in_reach in
-    let l = low a.s a.red.0 a.green.0 a.blue.0 v i c.low_of.ensures c.products-l.ensures in
-    let h = high a.s a.red.0 a.green.0 a.blue.0 v i c.high_of.ensures c.products-h.ensures in
-    record { sum = subst Sum (sym l.green) l.green_sum; sum_2 = subst Sum (sym h.green) h.green_sum }
+    let l = low a.s a.red.0 a.green.0 a.blue.0 v i c.digits_of-digits.ensures.low c.products-l.ensures in
+    let h = high a.s a.red.0 a.green.0 a.blue.0 v i c.digits_of-digits.ensures.high c.products-h.ensures in
+    record { low = subst Sum (sym l.green) l.green_sum; high = subst Sum (sym h.green) h.green_sum }
 
 pub over_binary-requires-3 : goal.over_binary-requires-3
 over_binary-requires-3 c =
     let a = c.args in
     let v = c.requires.valid_for_aces in
     let i = c.requires.in_reach in
-    let l = low a.s a.red.0 a.green.0 a.blue.0 v i c.low_of.ensures c.products-l.ensures in
-    let h = high a.s a.red.0 a.green.0 a.blue.0 v i c.high_of.ensures c.products-h.ensures in
-    record { sum = subst Sum (sym l.blue) l.blue_sum; sum_2 = subst Sum (sym h.blue) h.blue_sum }
+    let l = low a.s a.red.0 a.green.0 a.blue.0 v i c.digits_of-digits.ensures.low c.products-l.ensures in
+    let h = high a.s a.red.0 a.green.0 a.blue.0 v i c.digits_of-digits.ensures.high c.products-h.ensures in
+    record { low = subst Sum (sym l.blue) l.blue_sum; high = subst Sum (sym h.blue) h.blue_sum }
 
 abbrev over : ℤ → ℤ
 over w = nearest (integer w /ℚ whole 1099511627776)
@@ -79,8 +79,8 @@ returns c =
     let a = c.args in
     let v = c.requires.valid_for_aces in
     let i = c.requires.in_reach in
-    let l = low a.s a.red.0 a.green.0 a.blue.0 v i c.low_of.ensures c.products-l.ensures in
-    let h = high a.s a.red.0 a.green.0 a.blue.0 v i c.high_of.ensures c.products-h.ensures in
+    let l = low a.s a.red.0 a.green.0 a.blue.0 v i c.digits_of-digits.ensures.low c.products-l.ensures in
+    let h = high a.s a.red.0 a.green.0 a.blue.0 v i c.digits_of-digits.ensures.high c.products-h.ensures in
     let red = joined c.over_binary.type_inv c.over_binary.ensures l.red h.red (pair_is a.s v 0 (lit< tt) a.red.0 a.green.0 a.blue.0) in
     let green = joined c.over_binary-2.type_inv c.over_binary-2.ensures l.green h.green (pair_is a.s v 1 (lit< tt) a.red.0 a.green.0 a.blue.0) in
     let blue = joined c.over_binary-3.type_inv c.over_binary-3.ensures l.blue h.blue (pair_is a.s v 2 (lit< tt) a.red.0 a.green.0 a.blue.0) in

@@ -33,4 +33,4 @@ module _ (l h : ℤ) (sl : Sum l) (sh : Sum h) where
   rounded = rw (read_back_lem (sum_fits l sl), read_back_lem (sum_fits h sh), read_back_lem carry_fits, read_back_lem first, read_back_lem second, read_back_lem quotient_fits) (binary l h)
 
 pub returns : goal.returns
-returns c = rounded c.args.l c.args.h c.requires.sum c.requires.sum_2
+returns c = rounded c.args.l c.args.h c.requires.low c.requires.high

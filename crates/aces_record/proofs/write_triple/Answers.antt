@@ -2,5 +2,5 @@
 use Rattle.rules.proofs.Channels.{codes_pixel}
 use Rattle.aces_record.proofs.write_triple.Goals as goal
 
-pub of_pixel-a-requires-clause-pixel : goal.of_pixel-a-requires-clause-pixel
-of_pixel-a-requires-clause-pixel c = rw c.pixel_in.ensures (codes_pixel c.args.s c.args.r.now c.requires.r_value)
+pub of_pixel-a-requires : goal.of_pixel-a-requires
+of_pixel-a-requires c = record { pixel = rw c.channels_in.ensures (codes_pixel c.args.d.now.setting c.args.r.now c.requires.r_value) }

@@ -6,4 +6,4 @@ use Rattle.encode.proofs.code_of.Goals as goal
 
 pub code_at-requires-clause-i_bound : goal.code_at-requires-clause-i_bound
 code_at-requires-clause-i_bound c =
-    subst (λ (i : ℕ). i ≤ last_of c.args.s) (sym c.nearest_step.ensures) (encoded_nearest c.args.s c.args.x.0).in_range
+    subst (λ (i : ℕ). i ≤ last_of c.args.d.now.setting) (sym c.nearest_step.ensures) (encoded_nearest c.args.d.now.setting c.args.x.0).in_range

@@ -14,21 +14,21 @@ use Rattle.encode.proofs.Shifted as shifted
 use Rattle.encode.proofs.nearest_step.Goals as goal
 
 -- the number fits a word
-fits : (c : goal.Else-number) → SFits w64 c.args.x.0
+fits : (c : goal.After-find-arg-2-1) → SFits w64 c.args.x.0
 fits c = search rules
 
-above : (c : goal.Else-number) → dn c.args.x.0 ≤ up c.args.x.0 + offset
+above : (c : goal.After-find-arg-2-1) → dn c.args.x.0 ≤ up c.args.x.0 + offset
 above c = shifted.not_under c.args.x.0 (rw (read_back_lem (fits c)) at c.if-number.false)
 
-high : (c : goal.Else-number) → up c.args.x.0 ≤ 2 ^ 40
+high : (c : goal.After-find-arg-2-1) → up c.args.x.0 ≤ 2 ^ 40
 high c = (scene_passed c.args.x.0 c.requires.x_value).0
 
 pub returns-then-number : goal.returns-then-number
 returns-then-number c =
     let fits_then : SFits w64 c.args.x.0 = search rules in
     let below : up c.args.x.0 + offset ≤ dn c.args.x.0 = shifted.under c.args.x.0 (rw (read_back_lem fits_then) at c.if-number.true) in
-    step_is c.args.s c.requires.ready.valid c.args.x.0 0
-    (first_within (raw c.args.s) (last_of c.args.s) (raw_rises c.args.s c.requires.ready.valid) c.args.x.0 (omega (arith, below)))
+    step_is c.args.d.now.setting c.args.d.now.ready.valid c.args.x.0 0
+    (first_within (raw c.args.d.now.setting) (last_of c.args.d.now.setting) (raw_rises c.args.d.now.setting c.args.d.now.ready.valid) c.args.x.0 (omega (arith, below)))
 
 pub overflow_add-number : goal.overflow_add-number
 overflow_add-number c = shifted.add_fits c.args.x.0 (fits c) (above c) (high c)
@@ -38,13 +38,13 @@ overflow_cast-number c = shifted.cast_fits c.args.x.0 (fits c) (above c) (high c
 
 pub find-requires-clause-rising : goal.find-requires-clause-rising
 find-requires-clause-rising c =
-    rw (c.requires.ready.decoder, c.requires.ready.table, c.requires.last_value) (rising c.args.s c.requires.ready.valid)
+    rw (c.args.d.now.ready.decoder, c.args.d.now.ready.table, c.requires.last_value) (rising c.args.d.now.setting c.args.d.now.ready.valid)
 
 pub find-requires-clause-y_bound : goal.find-requires-clause-y_bound
 find-requires-clause-y_bound c = shifted.small c.args.x.0 (fits c) (above c) (high c)
 
 pub returns : goal.returns
 returns c =
-    step_is c.args.s c.requires.ready.valid c.args.x.0 c.find.result.0
+    step_is c.args.d.now.setting c.args.d.now.ready.valid c.args.x.0 c.find.result.0
     (step_within _ _ c.args.x.0 _ c.find.result.0 (shifted.shifted c.args.x.0 (fits c.before) (above c.before) (high c.before))
-    (rw (c.requires.ready.decoder, c.requires.ready.table, c.requires.last_value) at c.find.ensures))
+    (rw (c.args.d.now.ready.decoder, c.args.d.now.ready.table, c.requires.last_value) at c.find.ensures))

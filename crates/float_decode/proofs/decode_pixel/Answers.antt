@@ -1,33 +1,25 @@
--- `decode_pixel` meets its contract: the setting's checks first; the floats of a pixel of a valid setting are exact.
-use Rattle.std.proofs.Common.{◌≡◌, sym, ◌∙◌, subst}
+-- `decode_pixel` meets its contract: the floats that are given are exact.
+use Rattle.std.proofs.Common.{◌≡◌, Ok, sym, subst, rules}
 use Rattle.std.specs.Prelude.{Float}
-use Rattle.rules.specs.declared.Pixel.{Pixel}
+use Rattle.rules.specs.Triples.{Pixel}
 use Rattle.rules.specs.declared.Setting.{Setting}
 use Rattle.rules.specs.Result.{Result}
-use Rattle.float_decode.specs.declared.FloatDecoding.{FloatDecoding}
-use Rattle.float_decode.specs.Answer.{float_decoding_result, decode_pixel_result, Exact}
+use Rattle.rules.specs.Refusal.{OrRefusal}
+use Rattle.float_decode.specs.Answer.{FloatPixel, float_decoding_result, decode_pixel_result, Exact}
 use Rattle.float_decode.proofs.Theorems.{result_exact}
 use Rattle.float_decode.proofs.decode_pixel.Goals as goal
 
-exact : (s : Setting) (p : Pixel) (a : FloatDecoding) → float_decoding_result a ≡ decode_pixel_result s p → Exact s p (float_decoding_result a).values
+exact : (s : Setting) (p : Pixel) (a : OrRefusal FloatPixel) → float_decoding_result a ≡ decode_pixel_result s p → Exact s p (float_decoding_result a).values
 exact s p a e = subst (λ (r : Result Float). Exact s p r.values) (sym e) (result_exact s p)
 
-refused_value : goal.returns-in-Refused-clause-result_value
+pub returns-in_err-check_setting-clause-exact : goal.returns-in_err-check_setting-clause-exact
 unfolding decode_pixel_result
-refused_value c = rw (sym c.check_setting.ensures ∙ c.in-Refused.is) c.refused.ensures
+returns-in_err-check_setting-clause-exact c = exact c.args.s c.args.p c.from_residual.result (search rules)
 
-passed_value : goal.returns-in-Passed-clause-result_value
+pub returns-in_err-check_pixel-clause-exact : goal.returns-in_err-check_pixel-clause-exact
 unfolding decode_pixel_result
-passed_value c = rw (sym c.check_setting.ensures ∙ c.in-Passed.is) c.decode_valid.ensures
+returns-in_err-check_pixel-clause-exact c = exact c.args.s c.args.p c.from_residual-in_err-check_pixel.result (search rules)
 
-pub returns-in-Refused-clause-result_value : goal.returns-in-Refused-clause-result_value
-returns-in-Refused-clause-result_value = refused_value
-
-pub returns-in-Refused-clause-exact : goal.returns-in-Refused-clause-exact
-returns-in-Refused-clause-exact c = exact _ _ _ (refused_value c)
-
-pub returns-in-Passed-clause-result_value : goal.returns-in-Passed-clause-result_value
-returns-in-Passed-clause-result_value = passed_value
-
-pub returns-in-Passed-clause-exact : goal.returns-in-Passed-clause-exact
-returns-in-Passed-clause-exact c = exact _ _ _ (passed_value c)
+pub returns-clause-exact : goal.returns-clause-exact
+unfolding decode_pixel_result
+returns-clause-exact c = exact c.args.s c.args.p (Ok c.floats_of.result) (search rules)

@@ -6,4 +6,4 @@ use Rattle.float_decode.proofs.float_at.Goals as goal
 
 pub float_of-requires : goal.float_of-requires
 float_of-requires c =
-    subst (λ (z : ℤ). nat_abs z ≤ 2 ^ 40) (sym c.scene.ensures) (decoded_fits c.args.s c.requires.ready.valid c.args.n.0 c.requires.n_value)
+    subst (λ (z : ℤ). nat_abs z ≤ 2 ^ 40) (sym c.scene.ensures) (decoded_fits c.args.d.now.setting c.args.d.now.ready.valid c.args.n.0 c.requires)

@@ -1,7 +1,8 @@
--- `behind_eleven` meets its contract: 53 less the leading zeros, where there are fewer.
-use Rattle.std.proofs.Common.{refl}
+-- `behind_eleven` meets its contract: at most 29 digits are behind the first eleven.
+use Rattle.std.proofs.Common.{◌≤◌, sym, subst}
 use Rattle.half.proofs.Digits.{first_eleven}
 use Rattle.half.proofs.behind_eleven.Goals as goal
 
-pub returns-then-zeros-lt53 : goal.returns-then-zeros-lt53
-returns-then-zeros-lt53 c = (refl, (first_eleven c.args.n c.requires).few)
+pub returns : goal.returns
+returns c =
+    let e = c.saturating_sub.ensures in (e, subst (λ k. k ≤ 29) (sym e) (first_eleven c.args.n c.requires).few)

@@ -3,16 +3,13 @@ use Rattle.std.proofs.Common.{◌≡◌, ℕ, ◌^◌, ◌<◌, min, ap, ◌∙�
 use Rattle.rules.specs.Half.{half_end, joined, to_even, rounded_size, half_size}
 use Rattle.half.proofs.Digits.{size_nearest}
 use Rattle.half.proofs.nearest_size.Goals as goal
-use Rattle.half.proofs.nearest_size.Goals.{then-m-lt-END, else-m-lt-END}
 
 -- what is joined
 sized : (c : goal.After-to_even) → joined c.behind_eleven-k.result c.to_even.result ≡ half_size c.args.m
 sized c =
-    let n = c.if-m-lt-END.n in
-    let lesser : n ≡ min c.args.m half_end =
-    elim c.if-m-lt-END.branch [ then-m-lt-END w ↦ omega arith | else-m-lt-END w ↦ omega arith ] in
+    let lesser : c.min-n.result ≡ min c.args.m half_end = omega (arith, c.min-n.ensures) in
     ap (joined c.behind_eleven-k.result) c.to_even.ensures
-    ∙ ap (λ (k : ℕ). joined k (to_even n k)) c.behind_eleven-k.ensures.0
+    ∙ ap (λ (k : ℕ). joined k (to_even c.min-n.result k)) c.behind_eleven-k.ensures.0
     ∙ ap rounded_size lesser
 
 below : (c : goal.After-to_even) → joined c.behind_eleven-k.result c.to_even.result < 2 ^ 15

@@ -1,8 +1,7 @@
 -- `put_u16` meets its contract.
-use Rattle.rules.specs.Record.{digits}
-use Rattle.little_endian.proofs.Bytes.{stored}
+use Rattle.std.proofs.Common.{◌∙◌}
+use Rattle.little_endian.proofs.Bytes.{low_bytes}
 use Rattle.little_endian.proofs.put_u16.Goals as goal
 
 pub returns : goal.returns
-unfolding digits
-returns c = stored c.args.out.now (digits 2 c.args.x) c.requires
+returns c = c.copy_from_slice.ensures.after ∙ c.to_le_bytes.ensures ∙ low_bytes 2 c.args.x

@@ -53,19 +53,19 @@ module _ {m : List (List ℤ)} {i : ℕ} {x y z : ℤ} (s : SmallRow m i) (o₀ 
       (read_back_lem (sum_fits _ (sum_small c₀ c₁ c₂ x y z s.first s.second s.third o₀ o₁ o₂)))
 
 pub overflow_mul-result : goal.overflow_mul-result
-overflow_mul-result c = term_fits_word (entry (plain c.args.m) c.args.i 0) _ c.requires.small_row.first c.requires.number
+overflow_mul-result c = term_fits_word (entry (plain c.args.m) c.args.i 0) _ c.requires.small_row.first c.requires.red
 
 pub overflow_mul-result-2 : goal.overflow_mul-result-2
-overflow_mul-result-2 c = term_fits_word (entry (plain c.args.m) c.args.i 1) _ c.requires.small_row.second c.requires.number_2
+overflow_mul-result-2 c = term_fits_word (entry (plain c.args.m) c.args.i 1) _ c.requires.small_row.second c.requires.green
 
 pub overflow_mul-result-3 : goal.overflow_mul-result-3
-overflow_mul-result-3 c = term_fits_word (entry (plain c.args.m) c.args.i 2) _ c.requires.small_row.third c.requires.number_3
+overflow_mul-result-3 c = term_fits_word (entry (plain c.args.m) c.args.i 2) _ c.requires.small_row.third c.requires.blue
 
 pub overflow_add-result : goal.overflow_add-result
-overflow_add-result c = two_fit_word c.requires.small_row c.requires.number c.requires.number_2 c.requires.number_3
+overflow_add-result c = two_fit_word c.requires.small_row c.requires.red c.requires.green c.requires.blue
 
 pub overflow_add-result-2 : goal.overflow_add-result-2
-overflow_add-result-2 c = sum_fits_word c.requires.small_row c.requires.number c.requires.number_2 c.requires.number_3
+overflow_add-result-2 c = sum_fits_word c.requires.small_row c.requires.red c.requires.green c.requires.blue
 
 pub returns : goal.returns
-returns c = sum_is c.requires.small_row c.requires.number c.requires.number_2 c.requires.number_3
+returns c = sum_is c.requires.small_row c.requires.red c.requires.green c.requires.blue

@@ -1,7 +1,7 @@
 -- The cases are those of the rules.
 use Rattle.std.proofs.Common.{◌≡◌, ℕ, ◌+◌, ◌*◌, arith, ap, ◌∙◌}
-use Rattle.rules.specs.declared.Check.{Check}
-use Rattle.rules.specs.declared.Pixel.{Pixel}
+use Rattle.rules.specs.Refusal.{Check}
+use Rattle.rules.specs.Triples.{Pixel}
 use Rattle.rules.specs.Pixels.{each_code}
 use Rattle.rules.specs.Setting.{Codes, code_among, top_of, codes_to_top}
 use Rattle.setting_codes.proofs.Ranges.{no_log_c4, recorder, legal, full}

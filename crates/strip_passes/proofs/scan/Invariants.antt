@@ -1,17 +1,11 @@
--- `scan`: the loop stands at a record, and answers what the records from there on say, with the decoder and the table of a setting that passes.
-use Rattle.std.proofs.Common.{◌≡◌, ◌-◌}
-use Rattle.rules.specs.declared.Check.TheVariants.{Passed}
-use Rattle.decode.specs.Ready.{Ready}
-use Rattle.record_conversion.specs.Conversions.{conversion_of}
+-- `scan`: the loop stands at a record, and answers what the records from there on say; the setting that is prepared passes.
+use Rattle.std.specs.Prelude.{Ok}
+use Rattle.std.proofs.Common.{◌≡◌}
 use Rattle.strip_passes.proofs.FirstPass.{Scanned}
 use Rattle.strip_passes.proofs.scan.Given as goal
 
-abbrev pub invariant-loop-i : goal.invariant-loop-i
-invariant-loop-i l = record {
-  scanned : Scanned (conversion_of l.k) l.n l.input l.i;
-  passes : (conversion_of l.k).setting l.s ≡ Passed;
-  ready : Ready l.s l.d l.t;
+abbrev pub invariant-loop-index : goal.invariant-loop-index
+invariant-loop-index g l = let c = g.C.RecordConversion.rule l.k in record {
+  scanned : Scanned c l.n l.input l.index;
+  passes : c.setting l.d.setting ≡ Ok tt;
 }
-
-abbrev pub decreases-loop-i : goal.decreases-loop-i
-decreases-loop-i l = l.n - l.i

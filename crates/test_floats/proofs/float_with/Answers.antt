@@ -1,5 +1,5 @@
 -- `float_with` makes a float of the bits of a number only.
-use Rattle.std.proofs.Common.{◌≡◌, sym, ◌∙◌, subst, ℕ, ◌%◌, ◌≤◌, Bool}
+use Rattle.std.proofs.Common.{sym, ◌∙◌, subst, ℕ, ◌%◌, ◌≤◌, Bool}
 use mathlib.Core.Bool.{not}
 use borrow.Author.Tests.{le-ltb}
 use lib.Bits.{bit_and, and_mask}

@@ -1,5 +1,0 @@
--- `main`: the loop ends.
-use Rattle.test_strips.proofs.main.Given as goal
-
-abbrev pub decreases-loop-turns : goal.decreases-loop-turns
-decreases-loop-turns l = l.turns
