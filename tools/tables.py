@@ -201,15 +201,28 @@ def line(curve):
     return round(slope * 2 ** 32), round(start * 2 ** 48)
 
 
+def by_row(number, names):
+    """the function that gives the line of a row of a curve's constants"""
+    arms = "".join(f"            {row} => LogLine::{name},\n" for row, name in enumerate(names))
+    return (
+        f"    // The line of a row of curve {number}'s constants.\n"
+        f"    fn log_c{number}(row: usize) -> LogLine\n"
+        "        ensures { result.slope < 2 ^ 29 }\n"
+        "    {\n"
+        "        match row {\n"
+        f"{arms}"
+        "            _ => LogLine::NONE,\n"
+        "        }\n"
+        "    }\n\n"
+    )
+
+
 def lines():
-    def text(curve, pad):
-        slope, start = line(curve)
-        return f"LogLine {{\n{pad}    slope: {slope},\n{pad}    start: {start},\n{pad}}}"
-
-    def by_row(number):
-        rows = "".join(f"        // EI {ei}\n        {text(c, '        ')},\n" for ei, c in zip(eis(), with_toe(number)))
-        return f"    // The lines of curve {number} by the rows of its constants.\n    pub const LOG_C{number}: [LogLine; LogC::ROWS] = [\n{rows}    ];\n\n"
-
+    consts, names = "", {2: [], 3: [], 4: []}
+    for c in curves():
+        slope, start = line(c)
+        consts += f"    pub const {c.name}: LogLine = LogLine {{\n        slope: {slope},\n        start: {start},\n    }};\n\n"
+        names[c.number].append(c.name)
     return (
         "// The lines of the guess, one for each curve, and for each EI of a curve with a toe. Written by tools/tables.py.\n"
         "ghost use Rattle.std.specs.Prelude.{◌^◌, ◌<◌};\n"
@@ -223,25 +236,24 @@ def lines():
         "// Above the toe a step's number, less the decoder's bias, is a number z over 2^27, and the signal is slope * log2(z) - start. The slope is\n"
         "// in units of 2^-32, the start in units of 2^-48.\n"
         "#[derive(Clone, Copy)]\n"
-        "pub struct LogLine {\n    pub slope: u64,\n    pub start: u64,\n    pub ghost small: { slope < 2 ^ 29 },\n}\n"
+        "pub struct LogLine {\n    pub slope: u64,\n    pub start: u64,\n}\n"
         "\n"
         "impl LogLine {\n"
-        f"    pub const LOG_C4: LogLine = {text(curves()[0], '    ')};\n\n"
-        f"{by_row(2)}"
-        f"{by_row(3)}"
-        "    // of no curve (no Option: nothing but speed rests on a line)\n"
+        f"{consts}"
+        "    // of no curve\n"
         "    pub const NONE: LogLine = LogLine { slope: 0, start: 0 };\n\n"
-        "    // The line of a row of constants, among those of a curve with a toe.\n"
-        "    fn by_row(lines: &[LogLine; LogC::ROWS], row: usize) -> LogLine {\n"
-        "        if row < LogC::ROWS {\n            lines[row]\n        } else {\n            LogLine::NONE\n        }\n"
-        "    }\n\n"
+        f"{by_row(2, names[2])}"
+        f"{by_row(3, names[3])}"
         "    // The line of a setting. (It goes by the curve's number: to name the curve first took 4 % of the\n"
         "    // way back's time.)\n"
-        "    pub fn of(s: Setting) -> LogLine {\n"
-        "        match s.curve {\n"
-        "            LogC2::NUMBER => LogLine::by_row(&LogLine::LOG_C2, LogC::row(s.ei)),\n"
-        "            LogC3::NUMBER => LogLine::by_row(&LogLine::LOG_C3, LogC::row(s.ei)),\n"
-        "            LogC4::NUMBER => LogLine::LOG_C4,\n"
+        "    pub fn of(s: Setting) -> LogLine\n"
+        "        ensures { result.slope < 2 ^ 29 }\n"
+        "    {\n"
+        "        let curve = s.curve;\n"
+        "        match curve {\n"
+        "            LogC2::NUMBER => LogLine::log_c2(LogC::row(s.ei)),\n"
+        "            LogC3::NUMBER => LogLine::log_c3(LogC::row(s.ei)),\n"
+        "            LogC4::NUMBER => LogLine::LOGC4,\n"
         "            _ => LogLine::NONE,\n"
         "        }\n"
         "    }\n"

@@ -59,7 +59,7 @@ fn log2(z: u64) -> u64
 
 // The step nearest to the signal of z. (`last` is a u64 with its bound in a clause, since it is multiplied as one.)
 fn on_line(k: LogLine, last: u64, z: u64) -> u64
-    requires { last < 2 ^ 16 }
+    requires { (k.slope < 2 ^ 29) × (last < 2 ^ 16) }
 {
     let rise = k.slope * log2(z);
     let start = k.start;
@@ -71,7 +71,7 @@ fn on_line(k: LogLine, last: u64, z: u64) -> u64
 
 // The step of a number above the toe: a step's number is z and the bias, over 2^27 and rounded down.
 fn above_toe(k: LogLine, d: Decoder, last: u64, y: u64) -> u64
-    requires { (last < 2 ^ 16) × (y < 2 ^ 33) }
+    requires { (k.slope < 2 ^ 29) × (last < 2 ^ 16) × (y < 2 ^ 33) }
 {
     let sum = UNIT * y + UNIT / 2;
     let bias = d.bias;
