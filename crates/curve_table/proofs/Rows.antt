@@ -2,8 +2,9 @@
 -- Assumes nothing.
 use mathlib.Core.List.{List, [], ◌∷◌}
 use mathlib.Core.Path.{◌≡◌, refl}
-use Prim.Native.Nat.{ℕ, zero, suc}
-use lib.ListN.{get_or}
+use Prim.Native.Nat.{ℕ, zero, suc, ◌≤◌}
+use native.Mathlib.Omega.{arith}
+use lib.ListN.{length, get_or}
 use Rattle.rules.specs.Curve.{Row, log_c, log_c2_rows, log_c3_rows}
 use Rattle.rules.specs.Setting.{codes_at}
 use Rattle.rules.specs.declared.CurveName.TheVariants.{LogC2, LogC3}
@@ -20,6 +21,13 @@ at_row last row [] ss = refl
 at_row last row (r ∷ rs) [] = refl
 at_row last zero (r ∷ rs) (s ∷ ss) = refl
 at_row last (suc row) (r ∷ rs) (s ∷ ss) = at_row last row rs ss
+
+-- past the last row there is none
+pub no_row : (last row : ℕ) (rs : List Row) (ss : List Seed) → length rs ≤ row → no_table ≡ table_in last row rs ss
+no_row last row [] ss h = refl
+no_row last row (r ∷ rs) [] h = refl
+no_row last zero (r ∷ rs) (s ∷ ss) h = absurd (omega arith)
+no_row last (suc row) (r ∷ rs) (s ∷ ss) h = no_row last row rs ss (omega arith)
 
 pub log_c2_row : (width row : ℕ) → get_or (tables (codes_at LogC2 width).last log_c2_rows log_c2_seeds) row no_table ≡ log_c2_table width row
 unfolding log_c2_table

@@ -1,2 +1,2 @@
 mod Member
-mod Rows
+pub mod Rows

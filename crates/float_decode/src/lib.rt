@@ -7,7 +7,8 @@ ghost use Rattle.rules.specs.Setting.{code_check};
 ghost use Rattle.rules.specs.Float.{float_of};
 ghost use Rattle.rules.specs.Pixels.{IsPixel};
 ghost use Rattle.decode.specs.Decoded.{decoded};
-ghost use Rattle.float_decode.specs.Answer.{float_pixel, float_decoding_result, decode_pixel_result, Exact};
+ghost use Rattle.rules.specs.Result.{answered};
+ghost use Rattle.float_decode.specs.Answer.{float_pixel, floats, float_decoding_result, decode_pixel_result, Exact};
 
 use decode::prepared::Prepared;
 use rules::{Code, Pixel, Refusal, Rgb, Setting};
@@ -34,13 +35,20 @@ fn floats_of(d: &Prepared, p: Pixel) -> FloatPixel
     }
 }
 
-// The float pixel of a pixel, or the refusal of the first check that fails: 3, 4, 5, then 13, 11 and 6 for red, green and blue.
+// The float pixel of a pixel, or the cause of the first check that fails.
 #[tactic(auto, unfolding(crate::specs::Answer::decode_pixel_result))]
-pub fn decode_pixel(s: Setting, p: Pixel) -> Result<FloatPixel, Refusal>
-    ensures result_value { float_decoding_result result ≡ decode_pixel_result s p }
-    ensures exact { Exact s p (float_decoding_result result).values }
+fn floats_or_cause(s: Setting, p: Pixel) -> Result<FloatPixel, Refusal>
+    ensures { answered floats result ≡ decode_pixel_result s p }
 {
     setting::check_setting(s)?;
     setting_codes::check_pixel(s, p)?;
     Ok(floats_of(&Prepared::new(s), p))
+}
+
+// The float pixel of a pixel, or the refusal number of the first check that fails: 3, 4, 5, then 13, 11 and 6 for red, green and blue.
+pub fn decode_pixel(s: Setting, p: Pixel) -> Result<FloatPixel, u8>
+    ensures result_value { float_decoding_result result ≡ decode_pixel_result s p }
+    ensures exact { Exact s p (float_decoding_result result).values }
+{
+    floats_or_cause(s, p).map_err(|why| setting::refusal_number(why))
 }

@@ -35,7 +35,7 @@ pub const FIRST: Setting = Setting {
 };
 
 // A conversion of records, each on its own: a type for each, so that a loop over records has the steps of one of them (docs/DECISIONS.md).
-// (The impls are alike in form: each method is the one call of its conversion, and edits hold each to it. A record is a slice with its length in
+// (The impls are alike in form: each method is the one call of its conversion, and each type has edits. A record is a slice with its length in
 // a clause: the length is of the type, and Rattle has no array of a length that is computed from one.)
 pub trait RecordConversion: Copy {
     ghost use Rattle.rules.specs.Strip.{Conversion};

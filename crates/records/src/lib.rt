@@ -22,6 +22,20 @@ pub const NUMBERS_SIZE: usize = SETTING_BYTES + 3 * NUMBER_BYTES;
 
 pub const HALVES_SIZE: usize = SETTING_BYTES + 3 * HALF_BYTES;
 
+// Where the green and the blue channel of each begin. The red one begins behind the setting. (The functions below have these places as
+// sums with the bytes of their channel, of any kind.)
+pub const GREEN_CODE: usize = SETTING_BYTES + CODE_BYTES;
+
+pub const BLUE_CODE: usize = GREEN_CODE + CODE_BYTES;
+
+pub const GREEN_NUMBER: usize = SETTING_BYTES + NUMBER_BYTES;
+
+pub const BLUE_NUMBER: usize = GREEN_NUMBER + NUMBER_BYTES;
+
+pub const GREEN_HALF: usize = SETTING_BYTES + HALF_BYTES;
+
+pub const BLUE_HALF: usize = GREEN_HALF + HALF_BYTES;
+
 // A record of a strip, from 0.
 pub fn record_at(strip: &[u8], size: usize, i: usize) -> &[u8]
     requires { i * size + size ≤ length strip.now }

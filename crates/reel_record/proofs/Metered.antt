@@ -16,7 +16,7 @@ use Rattle.rules.proofs.ReelChecks.{passing}
 use Rattle.rules.proofs.Settings.{aces_valid}
 use Rattle.decode.specs.Decoded.{decoded}
 
-metered_passed : (r : List ℕ) → meter_check r ≡ Ok tt → scenes (scene_at decoded r 0) (scene_at decoded r 1) (scene_at decoded r 2) ≡ metered decoded r
+pub metered_passed : (r : List ℕ) → meter_check r ≡ Ok tt → scenes (scene_at decoded r 0) (scene_at decoded r 1) (scene_at decoded r 2) ≡ metered decoded r
 unfolding metered
 metered_passed r e = rw e refl
 

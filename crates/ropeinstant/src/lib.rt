@@ -147,7 +147,7 @@ pub extern "C" fn ropeinstant_codes_to_floats(
             *floats = [f.red, f.green, f.blue];
             0
         }
-        Err(why) => setting::refusal_number(why) as u32,
+        Err(number) => number as u32,
     }
 }
 
@@ -171,7 +171,7 @@ pub extern "C" fn ropeinstant_floats_to_codes(
             *codes = [p.red.0, p.green.0, p.blue.0];
             0
         }
-        Err(why) => setting::refusal_number(why) as u32,
+        Err(number) => number as u32,
     }
 }
 

@@ -44,6 +44,10 @@ number_of NotHeld = 16
 abbrev pub OrRefusal : Type 0 → Type 0
 OrRefusal A = Result A Refusal
 
+-- the same with the refusal's number
+abbrev pub OrNumber : Type 0 → Type 0
+OrNumber A = Result A ℕ
+
 -- a check that passes gives nothing else
 abbrev pub Check : Type 0
 Check = OrRefusal (Unit {0})

@@ -1,8 +1,8 @@
 -- 01, "Refused, by the place of the check" and "Which form to use where": what a call gives, whatever it answers. "Where an answer is an
--- enum, a definition gives this paper's number and values for each case of the enum": `answered` and `strip_result` do.
+-- enum, a definition gives this paper's number and values for each case of the enum": `answered`, `numbered` and `strip_result` do.
 -- Assumes nothing.
 use Rattle.std.specs.Prelude.{List, [], ◌∷◌, ℕ, Err, Ok}
-use Rattle.rules.specs.Refusal.{Answer, Check, OrRefusal, number_of}
+use Rattle.rules.specs.Refusal.{Answer, Check, OrNumber, OrRefusal, number_of}
 
 -- the number, 0 for success; the index; the values
 pub record Result (A : Type 0) : Type 0 where
@@ -26,6 +26,11 @@ single (Err why) values = refused_by (number_of why) 0
 abbrev pub answered : {A B : Type 0} → (A → List B) → OrRefusal A → Result B
 answered values (Ok x) = done (values x)
 answered values (Err why) = refused_by (number_of why) 0
+
+-- the same where the answer has the refusal's number
+abbrev pub numbered : {A B : Type 0} → (A → List B) → OrNumber A → Result B
+numbered values (Ok x) = done (values x)
+numbered values (Err number) = refused_by number 0
 
 -- a conversion of strips: "Success carries the count of records"
 abbrev pub strip_result : Answer → Result ℕ

@@ -16,7 +16,7 @@ use curves::log_c3::LogC3;
 use curves::log_c4::LogC4;
 use rules::{CurveName, Refusal, Setting};
 
-// The number of a refusal. (A match and no number of the enum's own: edits such as refusals_exchanged hold each number here.)
+// The number of a refusal. (A match and no number of the enum's own: edits such as refusal_number_swapped hold each number here.)
 pub fn refusal_number(r: Refusal) -> u8
     ensures { result ≡ number_of r }
 {

@@ -7,16 +7,16 @@
 ghost use Rattle.std.specs.Prelude.{◌≤◌};
 
 use float_decode::FloatPixel;
-use rules::{Code, Pixel, Refusal, Setting};
+use rules::{Code, Pixel, Setting};
 
 // The standard streams. (Read and written by the kit's io: std's would rest the program on one more axiom, os::c::rattle_errno.)
 const STDIN_FILENO: i32 = 0;
 
 const STDOUT_FILENO: i32 = 1;
 
-fn print_refusal(why: Refusal) {
+fn print_refusal(number: u8) {
     io::write_all(STDOUT_FILENO, b"refused ");
-    io::print_decimal(STDOUT_FILENO, setting::refusal_number(why) as u64);
+    io::print_decimal(STDOUT_FILENO, number as u64);
 }
 
 fn print_three(red: u64, green: u64, blue: u64) {
@@ -39,17 +39,17 @@ fn float_with(bits: u64) -> f64 {
     }
 }
 
-fn print_floats(a: Result<FloatPixel, Refusal>) {
+fn print_floats(a: Result<FloatPixel, u8>) {
     match a {
         Ok(f) => print_three(bits_of(f.red), bits_of(f.green), bits_of(f.blue)),
-        Err(why) => print_refusal(why),
+        Err(number) => print_refusal(number),
     }
 }
 
-fn print_codes(a: Result<Pixel, Refusal>) {
+fn print_codes(a: Result<Pixel, u8>) {
     match a {
         Ok(p) => print_three(p.red.0 as u64, p.green.0 as u64, p.blue.0 as u64),
-        Err(why) => print_refusal(why),
+        Err(number) => print_refusal(number),
     }
 }
 
