@@ -1,13 +1,14 @@
 -- DECODED FLOAT PIXELS, for every setting and pixel.
 -- Assumes nothing.
 use Rattle.std.specs.Prelude.{Err, Ok}
-use mathlib.Core.Path.{◌≡◌, refl}
+use mathlib.Core.Path.{◌≡◌, refl, sym, subst}
+use lib.Ieee.{Float}
 use Prim.Native.Nat.{ℕ}
 use Rattle.rules.specs.Calls.{ExactBy}
 use Rattle.rules.specs.Refusal.{Check, then}
 use Rattle.rules.specs.Triples.{Pixel}
 use Rattle.rules.specs.declared.Setting.{Setting}
-use Rattle.rules.specs.Result.{done, single}
+use Rattle.rules.specs.Result.{Result, done, single}
 use Rattle.rules.specs.Setting.{setting_check, code_check, Valid}
 use Rattle.rules.specs.Float.{IsFloat, float_of}
 use Rattle.rules.proofs.Settings.{both}
@@ -32,6 +33,9 @@ result_exact s p = go (then (setting_check s) (codes_check s p)) refl
         let i = is_pixel s p b.1 in
         ExactBy.three (decoded_exact s b.0 p.red.0 i.red) (decoded_exact s b.0 p.green.0 i.green) (decoded_exact s b.0 p.blue.0 i.blue)
     go (Err r) e = ExactBy.none
+
+pub answer_exact : (s : Setting) (p : Pixel) (r : Result Float) → r ≡ decode_pixel_result s p → Exact s p r.values
+answer_exact s p r e = subst (λ (x : Result Float). Exact s p x.values) (sym e) (result_exact s p)
 
 -- a pixel of a valid setting is decoded to the floats of its numbers
 pub pixel_decodes : (s : Setting) → Valid s → (p : Pixel) → IsPixel s p → decode_pixel_result s p ≡ done (floats (float_pixel s p))

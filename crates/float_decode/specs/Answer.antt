@@ -4,8 +4,8 @@ use Rattle.std.specs.Prelude.{List, [], ◌∷◌, Float}
 use Rattle.rules.specs.Triples.{Pixel}
 use Rattle.rules.specs.declared.Rgb.{Rgb}
 use Rattle.rules.specs.declared.Setting.{Setting}
-use Rattle.rules.specs.Refusal.{OrNumber}
-use Rattle.rules.specs.Result.{Result, numbered}
+use Rattle.rules.specs.Refusal.{OrNumber, OrRefusal}
+use Rattle.rules.specs.Result.{Result, answered, numbered}
 use Rattle.rules.specs.Calls.{decode_floats_by, ExactBy}
 use Rattle.rules.specs.Float.{float_of}
 use Rattle.decode.specs.Decoded.{decoded}
@@ -21,9 +21,12 @@ float_pixel s p = record { red = float_of (decoded s p.red.0); green = float_of 
 abbrev pub floats : FloatPixel → List Float
 floats f = f.red ∷ f.green ∷ f.blue ∷ []
 
--- the number and the values of an answer
-abbrev pub float_decoding_result : OrNumber FloatPixel → Result Float
-float_decoding_result = numbered floats
+-- the number and the values of an answer with the cause, and of one with its number
+abbrev pub float_decoding_result : OrRefusal FloatPixel → Result Float
+float_decoding_result = answered floats
+
+abbrev pub numbered_float_decoding_result : OrNumber FloatPixel → Result Float
+numbered_float_decoding_result = numbered floats
 
 -- "Decoding one pixel answers either that float pixel or a refusal number": that of the first check that fails, 3, 4, 5, then 13, 11 and 6
 unfoldable pub decode_pixel_result : Setting → Pixel → Result Float

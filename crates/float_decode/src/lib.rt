@@ -7,8 +7,7 @@ ghost use Rattle.rules.specs.Setting.{code_check};
 ghost use Rattle.rules.specs.Float.{float_of};
 ghost use Rattle.rules.specs.Pixels.{IsPixel};
 ghost use Rattle.decode.specs.Decoded.{decoded};
-ghost use Rattle.rules.specs.Result.{answered};
-ghost use Rattle.float_decode.specs.Answer.{float_pixel, floats, float_decoding_result, decode_pixel_result, Exact};
+ghost use Rattle.float_decode.specs.Answer.{float_pixel, float_decoding_result, numbered_float_decoding_result, decode_pixel_result, Exact};
 
 use decode::prepared::Prepared;
 use rules::{Code, Pixel, Refusal, Rgb, Setting};
@@ -35,20 +34,22 @@ fn floats_of(d: &Prepared, p: Pixel) -> FloatPixel
     }
 }
 
-// The float pixel of a pixel, or the cause of the first check that fails.
-#[tactic(auto, unfolding(crate::specs::Answer::decode_pixel_result))]
-fn floats_or_cause(s: Setting, p: Pixel) -> Result<FloatPixel, Refusal>
-    ensures { answered floats result ≡ decode_pixel_result s p }
+// The float pixel of a pixel, or the cause of the first check that fails: 3, 4, 5, then 13, 11 and 6 for red, green and blue.
+#[tactic(auto, unfolding(crate::specs::Answer::decode_pixel_result), using(crate::proofs::Theorems::answer_exact))]
+pub fn decode_pixel(s: Setting, p: Pixel) -> Result<FloatPixel, Refusal>
+    ensures result_value { float_decoding_result result ≡ decode_pixel_result s p }
+    ensures exact { Exact s p (float_decoding_result result).values }
 {
     setting::check_setting(s)?;
     setting_codes::check_pixel(s, p)?;
     Ok(floats_of(&Prepared::new(s), p))
 }
 
-// The float pixel of a pixel, or the refusal number of the first check that fails: 3, 4, 5, then 13, 11 and 6 for red, green and blue.
-pub fn decode_pixel(s: Setting, p: Pixel) -> Result<FloatPixel, u8>
-    ensures result_value { float_decoding_result result ≡ decode_pixel_result s p }
-    ensures exact { Exact s p (float_decoding_result result).values }
+// The same with the cause's number, which is 01's form: the float pixel or a refusal number.
+#[tactic(auto, using(crate::proofs::Theorems::answer_exact))]
+pub fn decode_pixel_or_number(s: Setting, p: Pixel) -> Result<FloatPixel, u8>
+    ensures result_value { numbered_float_decoding_result result ≡ decode_pixel_result s p }
+    ensures exact { Exact s p (numbered_float_decoding_result result).values }
 {
-    floats_or_cause(s, p).map_err(|why| setting::refusal_number(why))
+    decode_pixel(s, p).map_err(|why| setting::refusal_number(why))
 }

@@ -142,7 +142,7 @@ pub extern "C" fn ropeinstant_codes_to_floats(
         green: Code(green),
         blue: Code(blue),
     };
-    match float_decode::decode_pixel(s, p) {
+    match float_decode::decode_pixel_or_number(s, p) {
         Ok(f) => {
             *floats = [f.red, f.green, f.blue];
             0
@@ -166,7 +166,7 @@ pub extern "C" fn ropeinstant_floats_to_codes(
 {
     let s = Setting { curve, width, ei };
     let f = FloatPixel { red, green, blue };
-    match float_encode::encode_pixel(s, f) {
+    match float_encode::encode_pixel_or_number(s, f) {
         Ok(p) => {
             *codes = [p.red.0, p.green.0, p.blue.0];
             0

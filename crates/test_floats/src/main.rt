@@ -96,9 +96,9 @@ fn answer(b: &[u8; 29]) {
         ei: u16::from_le_bytes([b[3], b[4]]),
     };
     if b[0] == 0 {
-        print_floats(float_decode::decode_pixel(s, pixel_in(b)));
+        print_floats(float_decode::decode_pixel_or_number(s, pixel_in(b)));
     } else {
-        print_codes(float_encode::encode_pixel(s, floats_in(b)));
+        print_codes(float_encode::encode_pixel_or_number(s, floats_in(b)));
     }
     io::write_all(STDOUT_FILENO, b"\n");
 }
