@@ -34,6 +34,7 @@ result_exact s p = go (then (setting_check s) (codes_check s p)) refl
         ExactBy.three (decoded_exact s b.0 p.red.0 i.red) (decoded_exact s b.0 p.green.0 i.green) (decoded_exact s b.0 p.blue.0 i.blue)
     go (Err r) e = ExactBy.none
 
+-- and of an answer of any form, which is said by its result
 pub answer_exact : (s : Setting) (p : Pixel) (r : Result Float) → r ≡ decode_pixel_result s p → Exact s p r.values
 answer_exact s p r e = subst (λ (x : Result Float). Exact s p x.values) (sym e) (result_exact s p)
 

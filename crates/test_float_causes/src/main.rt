@@ -1,6 +1,6 @@
-// Calls `decode_pixel` and `encode_pixel`, which answer a refusal with its cause: for pixels and float pixels that convert, and for one of each
-// cause. (`test_floats` has the calls that answer with its number.) A line is printed for each: the call, the setting, and the codes or the bits
-// of the floats; then the bits of the floats or the codes that it gives, or `refused` and the number of the cause.
+// Calls `decode_pixel` and `encode_pixel`, which refuse with a cause, on some pixels and float pixels that they convert and on one or more for each
+// cause. (`test_floats` has the calls that refuse with a number.) A line is printed for each: the call, the setting, and the codes or the bits of
+// the floats; then the bits of the floats or the codes that it gives, or `refused` and the number of the cause.
 
 #![tactic(auto)]
 
@@ -10,21 +10,22 @@ use rules::{Code, Pixel, Refusal, Setting};
 // The standard streams. (Read and written by the kit's io: std's would rest the program on one more axiom, os::c::rattle_errno.)
 const STDOUT_FILENO: i32 = 1;
 
-// Curve, width and EI, and three codes: four pixels with a code at each end, then refusals 3, 4, 5, 13, 11 and 6.
+// Curve, width and EI, and three codes: four pixels with a code at each end; refusals 3, 4 and 5, each of a pixel whose code is refused too;
+// refusals 13, 11 and 6.
 const PIXELS: [(u8, u8, u16, [u16; 3]); 10] = [
     (2, 12, 200, [0, 1024, 4095]),
     (3, 10, 800, [0, 400, 1023]),
     (4, 16, 0, [0, 16384, 65520]),
     (4, 140, 0, [256, 1024, 3760]),
-    (5, 10, 800, [400, 400, 400]),
-    (3, 11, 800, [400, 400, 400]),
-    (3, 10, 801, [400, 400, 400]),
+    (5, 10, 800, [1024, 400, 400]),
+    (3, 11, 800, [400, 2048, 400]),
+    (3, 10, 801, [400, 400, 1024]),
     (4, 16, 0, [400, 17, 400]),
     (4, 140, 0, [255, 3761, 400]),
     (3, 10, 800, [400, 400, 1024]),
 ];
 
-// The same, and three floats: four float pixels in range, its ends among them, then refusals 3, 4 and 5, and 8 and 9 of each channel.
+// The same, and three floats: four float pixels in range, its ends among them; refusals 3, 4 and 5, likewise; refusals 8 and 9 of each channel.
 const FLOATS: [(u8, u8, u16, [f64; 3]); 13] = [
     (2, 12, 200, [0.18, 0.0, 1.0]),
     (3, 10, 800, [0.18, 0.5, -0.0]),
@@ -32,7 +33,7 @@ const FLOATS: [(u8, u8, u16, [f64; 3]); 13] = [
     (4, 140, 0, [0.18, -1.0, 469.8]),
     (5, 10, 800, [f64::INFINITY, 0.18, 0.18]),
     (3, 11, 800, [0.18, 65537.0, 0.18]),
-    (3, 10, 801, [0.18, 0.18, 0.18]),
+    (3, 10, 801, [0.18, 0.18, f64::INFINITY]),
     (3, 10, 800, [f64::INFINITY, 65537.0, 0.18]),
     (3, 10, 800, [65537.0, f64::INFINITY, 0.18]),
     (3, 10, 800, [0.18, f64::NEG_INFINITY, 65537.0]),
